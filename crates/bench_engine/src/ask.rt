@@ -149,7 +149,7 @@ pub fn shares(bench: &Bench, left: &Name, right: &Name, out: &mut ReplyText) -> 
         (λ choice. shares_outcome bench.now.state left.now right.now)
         bench.now.state bench.now.state out.new result }
 {
-    let yes = bench.shares(out.allocator(), left, right)?;
+    let yes = bench.shares(left, right)?;
     out.set(b"shares ", yes_or_no(yes));
     Ok(())
 }

@@ -182,7 +182,7 @@ pub fn bind_new(
         bench.old.state bench.new.state out.new result }
 {
     set_bound_text(out, name, &owned.descr, &owned.layout.shape, origin)?;
-    bench.bind(out.allocator(), name, Bound::Fresh(owned))
+    bench.bind(name, Bound::Fresh(owned))
 }
 
 /// Binds a name to a new array.

@@ -14,7 +14,7 @@ pub fn delete(bench: &mut Bench, name: &Name, out: &mut ReplyText) -> Result<(),
         (λ choice. delete_outcome bench.old.state name.now)
         bench.old.state bench.new.state out.new result }
 {
-    bench.unbind(out.allocator(), name)?;
+    bench.unbind(name)?;
     out.set(b"ok del ", name.as_slice());
     Ok(())
 }

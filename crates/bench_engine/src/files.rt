@@ -129,5 +129,5 @@ pub fn load<N: NpyStore>(
     }
     let (owned, rest) = find(out.allocator(), store, file)?;
     set_loaded_text(out, name, &owned, rest)?;
-    bench.bind(out.allocator(), name, Bound::Fresh(owned))
+    bench.bind(name, Bound::Fresh(owned))
 }

@@ -226,5 +226,5 @@ pub fn view(
     let bound = viewed.bound;
     let (shape, origin) = shape_and_origin(&bound);
     set_bound_text(out, name, viewed.descr, shape, origin)?;
-    bench.bind(out.allocator(), name, bound)
+    bench.bind(name, bound)
 }

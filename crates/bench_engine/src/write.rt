@@ -194,7 +194,7 @@ pub fn set(
 {
     let alloc = out.allocator();
     let writing = writing_of(alloc, bench, assignment)?;
-    let count = bench.write_items(alloc, assignment.name, writing.target, writing.source)?;
+    let count = bench.write_items(assignment.name, writing.target, writing.source)?;
     set_count(out, assignment.operation, count);
     Ok(())
 }

@@ -81,17 +81,17 @@ impl Bench {
 
     /// Binds a name. If it was bound before, it keeps its place among the names. A view may be of
     /// the array that the name was bound to.
-    pub fn bind(&mut self, alloc: Global, name: &Name, bound: Bound) -> Result<(), Refusal>
+    pub fn bind(&mut self, name: &Name, bound: Bound) -> Result<(), Refusal>
         requires { MayBind self.old.state bound }
         ensures answers { AnswersBind self.old.state name.now bound result self.new.state }
         ensures patches { Counts 0 self.old result self.new }
     {
-        let key = Name::copy(alloc, name);
+        let key = Name::copy(self.alloc, name);
         if !self.has_room_for(name) {
             return Err(Refusal::TooManyNames);
         }
         make_room(&mut self.table.names, &self.history, 1)?;
-        let earlier = self.table.bind(Name::copy(alloc, name), bound)?;
+        let earlier = self.table.bind(Name::copy(self.alloc, name), bound)?;
         keep(
             &mut self.table.slots,
             &mut self.history,
@@ -104,7 +104,6 @@ impl Bench {
     /// before the first change.
     pub fn write_items(
         &mut self,
-        alloc: Global,
         name: &Name,
         target: Target,
         source: Source,
@@ -119,7 +118,7 @@ impl Bench {
         let keeps = self.history.capacity() > 0;
         make_room(&mut self.table.names, &self.history, 0)?;
         let cells = &mut self.table.slots.cells;
-        if let Some(over) = write_items(alloc, cells, home, target, source, keeps)? {
+        if let Some(over) = write_items(cells, home, target, source, keeps)? {
             let change = Change::Write {
                 number: home.number,
                 target: over.target,
@@ -131,11 +130,11 @@ impl Bench {
     }
 
     /// Unbinds a name. It takes memory only to keep the state before.
-    pub fn unbind(&mut self, alloc: Global, name: &Name) -> Result<(), Refusal>
+    pub fn unbind(&mut self, name: &Name) -> Result<(), Refusal>
         ensures answers { AnswersUnbind self.old.state name.now result self.new.state }
         ensures patches { Counts 0 self.old result self.new }
     {
-        let key = Name::copy(alloc, name);
+        let key = Name::copy(self.alloc, name);
         if !self.table.names.contains_key(&key) {
             return Err(Refusal::UnknownName);
         }
@@ -172,11 +171,11 @@ impl Bench {
 
     /// Whether the arrays of two names share cells. Unknown names are refused before any memory is
     /// allocated.
-    pub fn shares(&self, alloc: Global, left: &Name, right: &Name) -> Result<bool, Refusal>
+    pub fn shares(&self, left: &Name, right: &Name) -> Result<bool, Refusal>
         ensures answers { AnswersShares self.now.state left.now right.now result }
         ensures no_memory { LieInTwo self.now.state left.now right.now → IsOk result }
     {
-        self.table.shares(alloc, left, right)
+        self.table.shares(self.alloc, left, right)
     }
 
     /// How many names are bound.

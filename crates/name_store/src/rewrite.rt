@@ -54,7 +54,6 @@ pub(crate) fn fill(alloc: Global, block: &mut RawBlock, target: &Target, item: &
 
 /// Copies the items of a layout in another block to the offsets of a target, one after the other.
 pub(crate) fn copy_to(
-    alloc: Global,
     block: &mut RawBlock,
     target: &Target,
     other: &RawBlock,
@@ -70,8 +69,8 @@ pub(crate) fn copy_to(
     ensures len { length block.new ≡ length block.old }
 {
     match target {
-        Target::View(to) => assign_from(alloc, block, to, other, from, width),
-        Target::Plan(plan) => plan.assign(alloc, block, other, from, width),
+        Target::View(to) => assign_from(block, to, other, from, width),
+        Target::Plan(plan) => plan.assign(block.allocator(), block, other, from, width),
     }
 }
 

@@ -151,11 +151,9 @@ impl Writer<'_> {
         let (alloc, width, target) = (self.alloc, self.width, &self.target);
         match source {
             Source::One(item) => fill(alloc, block, target, item.as_slice()),
-            Source::Block(owned) => {
-                copy_to(alloc, block, target, &owned.block, &owned.layout, width)
-            }
+            Source::Block(owned) => copy_to(block, target, &owned.block, &owned.layout, width),
             Source::Buffer(number, from) => match &self.others[*number as usize] {
-                Some(slot) => copy_to(alloc, block, target, &slot.block, from, width),
+                Some(slot) => copy_to(block, target, &slot.block, from, width),
                 None => return move_to(alloc, block, target, from, width),
             },
         }
@@ -194,12 +192,12 @@ impl Writer<'_> {
         {
             match source {
                 Source::One(item) => {
-                    let block = overwrite_each(alloc, block, to, item.as_slice())?;
+                    let block = overwrite_each(block, to, item.as_slice())?;
                     return Ok(OldItems { block, width });
                 }
                 Source::Buffer(number, from) => {
                     if let Some(slot) = &self.others[*number as usize] {
-                        let block = overwrite(alloc, block, to, &slot.block, from, width)?;
+                        let block = overwrite(block, to, &slot.block, from, width)?;
                         return Ok(OldItems { block, width });
                     }
                 }
@@ -230,7 +228,7 @@ impl Writer<'_> {
             Source::Block(owned) => match &self.target {
                 Target::View(to) if owned.layout.is_c(width) => {
                     let mut items = owned.block;
-                    exchange(alloc, block, to, &mut items, &owned.layout, width);
+                    exchange(block, to, &mut items, &owned.layout, width);
                     Ok(OldItems {
                         block: items,
                         width,
@@ -287,7 +285,6 @@ impl Writer<'_> {
 /// kept, returns them with their places in the same order. All memory is allocated before the first
 /// change.
 pub(crate) fn write_items(
-    alloc: Global,
     cells: &mut Vec<Option<Slot>>,
     home: Home,
     target: Target,
@@ -303,7 +300,7 @@ pub(crate) fn write_items(
 {
     let mut slot = cells[home.number].take().unwrap();
     let writer = Writer {
-        alloc,
+        alloc: slot.block.allocator(),
         width: home.width,
         others: cells.as_slice(),
         target,

@@ -44,14 +44,7 @@ pub fn in_any_order(alloc: Global, dst: &Layout, src: &Layout, width: usize) -> 
 /// Copies the items, of `width` bytes, of the layout `src` in `other` to those of the layout `dst`,
 /// both in C order. If the items of `dst` do not overlap, they are visited in the order of memory,
 /// with the same result.
-pub fn assign_from(
-    alloc: Global,
-    block: &mut RawBlock,
-    dst: &Layout,
-    other: &RawBlock,
-    src: &Layout,
-    width: usize,
-)
+pub fn assign_from(block: &mut RawBlock, dst: &Layout, other: &RawBlock, src: &Layout, width: usize)
     requires dst { All (λ offset. offset + width ≤ length block.old) (offsets dst.now) }
     requires src { All (λ offset. offset + width ≤ length other.now) (offsets src.now) }
     requires count { count dst.now.shape ≡ count src.now.shape }
@@ -59,7 +52,7 @@ pub fn assign_from(
         ≡ assigned (offsets dst.now) (offsets src.now) width other.now block.old }
     ensures len { length block.new ≡ length block.old }
 {
-    match in_any_order(alloc, dst, src, width) {
+    match in_any_order(block.allocator(), dst, src, width) {
         Some(pair) => assign_in_order(block, &pair.target, other, &pair.source, width),
         None => assign_in_order(block, dst, other, src, width),
     }

@@ -6,7 +6,6 @@ use crate::pair_copies::as_runs;
 use arrays::strided;
 use raw_block::RawBlock;
 use shape_strides::{Layout, Run, RunPairs, in_memory_order};
-use std::alloc::Global;
 
 /// Exchanges the items, of `width` bytes, of a run with those of a run of `other` that has as many.
 fn trade_run(block: &mut RawBlock, to: Run, other: &mut RawBlock, from: Run, width: usize)
@@ -67,7 +66,6 @@ fn exchange_pairs(
 /// `other`, both in C order: each layout then has the items that the other one had. They are
 /// visited in the order of `dst` in memory, with the same result.
 pub fn exchange(
-    alloc: Global,
     block: &mut RawBlock,
     dst: &Layout,
     other: &mut RawBlock,
@@ -86,7 +84,7 @@ pub fn exchange(
     ensures len { length block.new ≡ length block.old }
     ensures other_len { length other.new ≡ length other.old }
 {
-    match in_memory_order(alloc, dst, src) {
+    match in_memory_order(block.allocator(), dst, src) {
         Some(pair) => exchange_pairs(block, &pair.target, other, &pair.source, width),
         None => exchange_pairs(block, dst, other, src, width),
     }

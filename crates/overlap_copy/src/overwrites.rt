@@ -129,7 +129,6 @@ fn overwrite_pairs(
 /// `dst`, both in C order, and returns the old ones, adjacent in a block of their own. This is a
 /// single pass, part by part. All memory is allocated before the first change.
 pub fn overwrite(
-    alloc: Global,
     block: &mut RawBlock,
     dst: &Layout,
     other: &RawBlock,
@@ -150,7 +149,7 @@ pub fn overwrite(
 {
     // More bytes than a block can have are refused like any others that cannot be allocated.
     let bytes = dst.shape.items().saturating_mul(width);
-    let mut kept = BlockBuilder::try_new(alloc, bytes)?;
+    let mut kept = BlockBuilder::try_new(block.allocator(), bytes)?;
     // For the prover alone: the number of bytes is within the limit of a block.
     let _filled = kept.filled();
     overwrite_pairs(block, RunPairs::new(dst, src), other, width, &mut kept);
@@ -174,7 +173,6 @@ fn all_at_start(alloc: Global, layout: &Layout) -> Result<Layout, AllocError>
 /// Writes one item over all items of the layout `dst`, and returns the old ones, adjacent in a
 /// block of their own. This is a single pass, like `overwrite`.
 pub fn overwrite_each(
-    alloc: Global,
     block: &mut RawBlock,
     dst: &Layout,
     item: &[u8],
@@ -190,7 +188,8 @@ pub fn overwrite_each(
         ≡ items_at (offsets dst.now) (length item.now) block.old) }
     ensures kept { IfErr result (λ _. block.new ≡ block.old) }
 {
+    let alloc = block.allocator();
     let other = RawBlock::try_copied(alloc, item)?;
     let src = all_at_start(alloc, dst)?;
-    overwrite(alloc, block, dst, &other, &src, item.len())
+    overwrite(block, dst, &other, &src, item.len())
 }
