@@ -4,6 +4,5 @@ use Rattle.elem_descr.proofs.descr.push_field.Goals as goal
 
 pub overflow_add-field : goal.overflow_add-field
 overflow_add-field c =
-    let bytes = ap item_size c.in-Record.is in
     let ends = leaf_within 0 _ _ c.loop-leaf.leaf-index c.leaf-item.result c.leaves-leaf-items.ensures.in_order c.loop-leaf-test.true c.leaf-item.is in
-    omega (arith, bytes, ends, c.requires.small)
+    omega (arith, ap item_size c.in-Record.is, ends, c.requires.small)

@@ -5,11 +5,10 @@ use Rattle.elem_descr.proofs.descr.Descr.leaf_at.Goals as goal
 
 pub returns-in-Record-clause-within : goal.returns-in-Record-clause-within
 returns-in-Record-clause-within c =
-    let bytes = ap item_size c.in-Record.is in
     let seen = ap (λ (d : Descr). length (leaves_of d)) c.in-Record.is in
     let below : c.args.k < length c.leaves.result.now = omega (arith, seen, ap length c.leaves.ensures.value, c.requires) in
     let ends = leaf_within 0 _ _ c.args.k c.index-leaves-k.result c.leaves.ensures.in_order below c.index-leaves-k.is in
-    omega (arith, bytes, ends)
+    omega (arith, ap item_size c.in-Record.is, ends)
 
 pub returns-in-Record-clause-small : goal.returns-in-Record-clause-small
 returns-in-Record-clause-small c =
