@@ -1,6 +1,6 @@
 //! The grammar of a line.
 ghost use Rattle.std.specs.Prelude.{◌≤◌, length};
-ghost use Rattle.script_lang.specs.Clauses.{load_at, value_at, bind_at, ask_at, verb_command_at, line_of, EachListAnyTurns, Scans, Reads, Says, value_room, parts_take_memory};
+ghost use Rattle.script_lang.specs.Clauses.{value_at, bind_at, ask_at, verb_command_at, line_of, EachListAnyTurns, Reads, Says, value_room, parts_take_memory};
 
 mod computations;
 mod creations;
@@ -17,9 +17,9 @@ mod views;
 use crate::command::{Command, Value};
 use crate::grammar::computations::compute;
 use crate::grammar::creations::make;
-use crate::grammar::names::{names_unless_verb, verb};
+use crate::grammar::names::{names_unless_verb, owned_name, verb};
 use crate::grammar::quotes::file_name;
-use crate::grammar::statements::{delete, question, save, set, update};
+use crate::grammar::statements::{question, set, update};
 use crate::grammar::tokens::{are_allowed, is_at_end, symbol, unspaced, word};
 use crate::grammar::views::{plain_view, view};
 use crate::text::FileName;
@@ -27,18 +27,8 @@ use crate::verb::Verb;
 use elem_descr::{Name, Refusal};
 use std::alloc::Global;
 
-/// `"f"`, after `load`.
-#[tactic(auto, unfolding(crate::specs::Commands::load_at))]
-fn load(alloc: Global, bytes: &[u8]) -> Option<(Value, &[u8])>
-    ensures { Scans (λ r. (r.0, r.1.now)) result (load_at bytes.now) }
-{
-    let (file, rest) = file_name(bytes)?;
-    let file = FileName::from_slice(alloc, file);
-    Some((Value::Load { file }, rest))
-}
-
 /// What follows `X =`. A word that is not a verb is the name of an array.
-#[tactic(auto, unfolding(crate::specs::Commands::value_at))]
+#[tactic(auto, unfolding(crate::specs::Commands::value_at, crate::specs::Commands::load_at))]
 fn value(alloc: Global, bytes: &[u8]) -> Result<(Value, &[u8]), Refusal>
     ensures { Reads (λ r. (r.0, r.1.now)) (λ r. value_room r.0) result (value_at bytes.now) }
 {
@@ -48,7 +38,11 @@ fn value(alloc: Global, bytes: &[u8]) -> Result<(Value, &[u8]), Refusal>
         Some(Verb::Make(verb)) => make(alloc, verb, rest),
         Some(Verb::View(verb)) => view(alloc, verb, rest),
         Some(Verb::Compute(verb)) => compute(alloc, verb, rest),
-        Some(Verb::Load) => load(alloc, rest).ok_or(Refusal::Syntax),
+        Some(Verb::Load) => {
+            let (file, rest) = file_name(rest).ok_or(Refusal::Syntax)?;
+            let file = FileName::from_slice(alloc, file);
+            Ok((Value::Load { file }, rest))
+        }
         Some(_) => Err(Refusal::Syntax),
     }
 }
@@ -74,7 +68,7 @@ fn bind<'a>(alloc: Global, word: &[u8], bytes: &'a [u8]) -> Result<(Command, &'a
 }
 
 /// The command that the verb begins.
-#[tactic(auto, unfolding(crate::specs::Commands::ask_at))]
+#[tactic(auto, unfolding(crate::specs::Commands::ask_at, crate::specs::Commands::delete_at, crate::specs::Commands::save_at))]
 fn verb_command(alloc: Global, verb: Verb, bytes: &[u8]) -> Result<(Command, &[u8]), Refusal>
     ensures { Reads (λ r. (r.0, r.1.now)) (λ r. parts_take_memory r.0) result
         (verb_command_at verb bytes.now) }
@@ -82,9 +76,17 @@ fn verb_command(alloc: Global, verb: Verb, bytes: &[u8]) -> Result<(Command, &[u
     match verb {
         Verb::Set => set(alloc, bytes),
         Verb::Update => update(alloc, bytes),
-        Verb::Delete => delete(alloc, bytes).ok_or(Refusal::Syntax),
+        Verb::Delete => {
+            let (name, rest) = owned_name(alloc, bytes).ok_or(Refusal::Syntax)?;
+            Ok((Command::Delete { name }, rest))
+        }
         Verb::Undo => Ok((Command::Undo, bytes)),
-        Verb::Save => save(alloc, bytes).ok_or(Refusal::Syntax),
+        Verb::Save => {
+            let (name, rest) = owned_name(alloc, bytes).ok_or(Refusal::Syntax)?;
+            let (file, rest) = file_name(rest).ok_or(Refusal::Syntax)?;
+            let file = FileName::from_slice(alloc, file);
+            Ok((Command::Save { name, file }, rest))
+        }
         Verb::Ask(verb) => {
             let (question, rest) = question(alloc, verb, bytes).ok_or(Refusal::Syntax)?;
             Ok((Command::Ask(question), rest))

@@ -1,18 +1,8 @@
 //! The text of a descriptor.
 ghost use Rattle.std.specs.Prelude.{◌≡◌, ◌≤◌, ◌<◌, ◌+◌, ◌^◌, length, IfSome, false};
-ghost use Rattle.script_lang.specs.Clauses.{depth_behind, named_behind, record_mark_at, record_len, record_text_at, descriptor_at, Scans};
+ghost use Rattle.script_lang.specs.Clauses.{depth_behind, named_behind, record_len, descriptor_at, Scans};
 
-use crate::grammar::tokens::{Class, byte, front, front_len, is_parted};
-
-/// The bytes after the marks and the `T{` at the front.
-#[tactic(auto, unfolding(crate::specs::Descriptors::record_mark_at))]
-fn record_mark(bytes: &[u8]) -> Option<&[u8]>
-    ensures { Scans (λ rest. rest.now) result (record_mark_at bytes.now) }
-{
-    let (_, rest) = bytes.split_at(front_len(Class::Mark, bytes));
-    let rest = byte(b'T', rest)?;
-    byte(b'{', rest)
-}
+use crate::grammar::tokens::{Class, front, front_len, is_parted};
 
 fn depth_behind(is_named: bool, byte: u8, depth: usize) -> usize
     requires { depth < 2 ^ 63 }
@@ -53,12 +43,13 @@ fn record_len(bytes: &[u8]) -> Option<usize>
 }
 
 /// The next descriptor, after at least one blank, and what follows it.
-#[tactic(auto, unfolding(crate::specs::Descriptors::descriptor_at, crate::specs::Descriptors::record_text_at), using(crate::proofs::Spelling::record_mark_shorter))]
+#[tactic(auto, unfolding(crate::specs::Descriptors::descriptor_at, crate::specs::Descriptors::record_mark_at, crate::specs::Descriptors::record_text_at), using(crate::proofs::Spelling::record_mark_shorter))]
 pub fn descr(bytes: &[u8]) -> Option<(&[u8], &[u8])>
     ensures { Scans (λ w. (w.0.now, w.1.now)) result (descriptor_at bytes.now) }
 {
     let (_, text) = front(Class::Blank, bytes)?;
-    if let Some(inside) = record_mark(text) {
+    let (_, unmarked) = text.split_at(front_len(Class::Mark, text));
+    if let [b'T', b'{', inside @ ..] = unmarked {
         let len = record_len(inside)?;
         let (_, rest) = inside.split_at(len);
         if !is_parted(rest) {

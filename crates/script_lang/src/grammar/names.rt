@@ -1,10 +1,9 @@
 //! The keywords of the language, and the names of arrays, which keywords cannot be.
 ghost use Rattle.std.specs.Prelude.{IfSome, length, map, ◌≡◌, ◌≤◌};
-ghost use Rattle.script_lang.specs.Clauses.{Scans, name_at, names_unless_verb, beside, is_constant, operation_of, order_of, verb_of};
+ghost use Rattle.script_lang.specs.Clauses.{Scans, name_at, names_unless_verb, beside, is_constant, order_of, verb_of};
 
-use crate::command::Operation;
 use crate::grammar::tokens::{is_name_start, word};
-use crate::verb::{ComputeVerb, FOUR_LETTERS, MORE_LETTERS, THREE_LETTERS, TWO_LETTERS, Verb};
+use crate::verb::{FOUR_LETTERS, MORE_LETTERS, THREE_LETTERS, TWO_LETTERS, Verb};
 use elem_descr::{LONGEST_NAME, MemoryOrder, Name};
 use std::alloc::Global;
 
@@ -71,17 +70,6 @@ pub fn is_constant(word: &[u8]) -> bool
     ensures { result ≡ is_constant word.now }
 {
     matches!(word, b"True" | b"False" | b"None")
-}
-
-/// The operation with two operands that the word names.
-#[tactic(auto, unfolding(crate::specs::Verbs::operation_of))]
-pub fn operation(word: &[u8]) -> Option<Operation>
-    ensures { result ≡ operation_of word.now }
-{
-    match verb(word) {
-        Some(Verb::Compute(ComputeVerb::Combine(operation))) => Some(operation),
-        _ => None,
-    }
 }
 
 /// The order of items that the word after `copy` names.

@@ -3,7 +3,7 @@ ghost use Rattle.std.specs.Prelude.{IfSome, length, true, ◌<◌, ◌^◌, ◌�
 ghost use Rattle.script_lang.specs.Clauses.{value_of, shape_at, signed_shape_at, by_rule, none_or_more, Reads, Scans, integer_at, is_digit, length_at, number_at, optional_integer_at, list_all};
 
 use crate::command::{Integers, Lengths};
-use crate::grammar::tokens::{byte, digits, is_parted, symbol, unspaced};
+use crate::grammar::tokens::{Class, byte, front, is_parted, symbol, unspaced};
 use elem_descr::Refusal;
 use std::alloc::Global;
 
@@ -24,12 +24,12 @@ fn value_of(digits: &[u8]) -> u128
 }
 
 /// The number at the front, and what follows it.
-#[tactic(auto, unfolding(crate::specs::Tokens::number_at))]
+#[tactic(auto, unfolding(crate::specs::Tokens::number_at), using(crate::proofs::Spelling::passing_front))]
 fn number(bytes: &[u8]) -> Option<(u128, &[u8])>
     ensures found { Scans (λ n. (n.0, n.1.now)) result (number_at bytes.now) }
     ensures small { IfSome result (λ n. n.0 < 2 ^ 100) }
 {
-    let (digits, rest) = digits(bytes)?;
+    let (digits, rest) = front(Class::Digit, bytes)?;
     if digits.len() > MAX_DIGITS || !is_parted(rest) {
         return None;
     }

@@ -1,14 +1,12 @@
 //! The commands that bind no name.
 ghost use Rattle.std.specs.Prelude.{◌≡◌};
-ghost use Rattle.script_lang.specs.Clauses.{asked_at, delete_at, question_at, save_at, set_at, shares_at, update_at, Reads, Scans, parts_take_memory};
+ghost use Rattle.script_lang.specs.Clauses.{asked_at, question_at, set_at, update_at, Reads, Scans, parts_take_memory};
 
 use crate::command::{Command, Question};
 use crate::grammar::indexes::{argument, bracket};
-use crate::grammar::names::{name, operation, owned_name};
-use crate::grammar::quotes::file_name;
+use crate::grammar::names::{name, owned_name, verb};
 use crate::grammar::tokens::{symbol, word};
-use crate::text::FileName;
-use crate::verb::AskVerb;
+use crate::verb::{AskVerb, ComputeVerb, Verb};
 use elem_descr::{Name, Refusal};
 use std::alloc::Global;
 
@@ -32,7 +30,7 @@ pub fn set(alloc: Global, bytes: &[u8]) -> Result<(Command, &[u8]), Refusal>
 }
 
 /// `X[ix] OP Z`, after `upd`.
-#[tactic(auto, unfolding(crate::specs::Commands::update_at), using(crate::proofs::Commands::update_index_room, crate::proofs::Commands::update_value_room))]
+#[tactic(auto, unfolding(crate::specs::Commands::update_at, crate::specs::Verbs::operation_of), using(crate::proofs::Commands::update_index_room, crate::proofs::Commands::update_value_room))]
 pub fn update(alloc: Global, bytes: &[u8]) -> Result<(Command, &[u8]), Refusal>
     ensures { Reads (λ r. (r.0, r.1.now)) (λ r. parts_take_memory r.0) result
         (update_at bytes.now) }
@@ -43,7 +41,9 @@ pub fn update(alloc: Global, bytes: &[u8]) -> Result<(Command, &[u8]), Refusal>
         Err(refusal) => return Err(refusal),
     };
     let (word, rest) = word(rest).ok_or(Refusal::Syntax)?;
-    let operation = operation(word).ok_or(Refusal::Syntax)?;
+    let Some(Verb::Compute(ComputeVerb::Combine(operation))) = verb(word) else {
+        return Err(Refusal::Syntax);
+    };
     let (value, rest) = match argument(alloc, rest) {
         Ok(found) => found,
         Err(refusal) => return Err(refusal),
@@ -56,26 +56,6 @@ pub fn update(alloc: Global, bytes: &[u8]) -> Result<(Command, &[u8]), Refusal>
         value,
     };
     Ok((update, rest))
-}
-
-/// `X`, after `del`.
-#[tactic(auto, unfolding(crate::specs::Commands::delete_at))]
-pub fn delete(alloc: Global, bytes: &[u8]) -> Option<(Command, &[u8])>
-    ensures { Scans (λ r. (r.0, r.1.now)) result (delete_at bytes.now) }
-{
-    let (name, rest) = owned_name(alloc, bytes)?;
-    Some((Command::Delete { name }, rest))
-}
-
-/// `X "f"`, after `save`.
-#[tactic(auto, unfolding(crate::specs::Commands::save_at))]
-pub fn save(alloc: Global, bytes: &[u8]) -> Option<(Command, &[u8])>
-    ensures { Scans (λ r. (r.0, r.1.now)) result (save_at bytes.now) }
-{
-    let (name, rest) = owned_name(alloc, bytes)?;
-    let (file, rest) = file_name(rest)?;
-    let file = FileName::from_slice(alloc, file);
-    Some((Command::Save { name, file }, rest))
 }
 
 /// What the verb asks for.

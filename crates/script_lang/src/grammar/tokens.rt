@@ -1,6 +1,6 @@
 //! Classes of bytes; blanks, symbols and words.
-ghost use Rattle.std.specs.Prelude.{IfSome, is_some, length, true, ◌≡◌, ◌≤◌};
-ghost use Rattle.script_lang.specs.Clauses.{is_allowed, Scans, at_end, byte_at, bytes_mark_at, flag_at, front_at, is_blank, is_digit, is_name_byte, is_name_start, is_parted, keyword_at, symbol_at, unspaced, word_at, is_in, list_all, prefix_len, bytes_eq};
+ghost use Rattle.std.specs.Prelude.{is_some, length, true, ◌≡◌, ◌≤◌};
+ghost use Rattle.script_lang.specs.Clauses.{is_allowed, Scans, at_end, byte_at, bytes_mark_at, flag_at, front_at, is_blank, is_name_byte, is_name_start, is_parted, keyword_at, symbol_at, unspaced, word_at, is_in, list_all, prefix_len, bytes_eq};
 
 #[derive(Clone, Copy)]
 pub enum Class {
@@ -176,15 +176,6 @@ pub fn flag<'a>(word: &[u8], bytes: &'a [u8]) -> (bool, &'a [u8])
         Some(rest) => (true, rest),
         None => (false, bytes),
     }
-}
-
-/// The digits at the front, and what follows them.
-#[tactic(auto, using(crate::proofs::Spelling::passing_front))]
-pub fn digits(bytes: &[u8]) -> Option<(&[u8], &[u8])>
-    ensures found { Scans (λ w. (w.0.now, w.1.now)) result (front_at is_digit bytes.now) }
-    ensures digits { IfSome result (λ w. list_all is_digit w.0.now ≡ true) }
-{
-    front(Class::Digit, bytes)
 }
 
 /// Whether only blanks remain.

@@ -1,8 +1,7 @@
 //! What follows `X =` and shows the items of another array.
-ghost use Rattle.std.specs.Prelude.{◌≡◌};
-ghost use Rattle.script_lang.specs.Clauses.{viewing_of, plain_view_at, field_name_at, transpose_at, reshape_at, broadcast_at, viewing_at, view_at, Reads, viewing_room, value_room};
+ghost use Rattle.script_lang.specs.Clauses.{plain_view_at, viewing_at, view_at, Reads, viewing_room, value_room};
 
-use crate::command::{Index, Value, Viewing};
+use crate::command::{Value, Viewing};
 use crate::grammar::indexes::optional_index;
 use crate::grammar::names::{name, names_unless_verb};
 use crate::grammar::numbers::{shape, signed_shape};
@@ -12,15 +11,6 @@ use crate::text::Text;
 use crate::verb::ViewVerb;
 use elem_descr::{Name, Refusal};
 use std::alloc::Global;
-
-fn viewing_of(index: Option<Index>) -> Viewing
-    ensures { result ≡ viewing_of index }
-{
-    match index {
-        Some(index) => Viewing::Indexed(index),
-        None => Viewing::Whole,
-    }
-}
 
 /// `Y` or `Y[ix]`, given the word `Y` and what follows it.
 #[tactic(auto, unfolding(crate::specs::Commands::plain_view_at), using(crate::proofs::Commands::plain_view_room))]
@@ -36,11 +26,12 @@ pub fn plain_view<'a>(
         return Err(Refusal::Syntax);
     }
     let (index, rest) = optional_index(alloc, bytes)?;
-    let view = Value::View {
-        source: Name::from_slice(alloc, word),
-        how: viewing_of(index),
+    let source = Name::from_slice(alloc, word);
+    let how = match index {
+        Some(index) => Viewing::Indexed(index),
+        None => Viewing::Whole,
     };
-    Ok((view, rest))
+    Ok((Value::View { source, how }, rest))
 }
 
 /// How the items are viewed, after the name.
