@@ -4,7 +4,7 @@ ghost use Rattle.elem_descr.specs.Names.{is_legal_name};
 ghost use Rattle.elem_descr.specs.RecordBuilding.{max_depth, max_fields, max_leaves};
 ghost use Rattle.elem_descr.specs.Refusals.{Gives};
 ghost use Rattle.elem_descr.specs.inside.Partials.{IsBody};
-ghost use Rattle.elem_descr.specs.inside.Turns.{body_in, closing, named, next_field, pad_in, record_within, scalar_in};
+ghost use Rattle.elem_descr.specs.inside.Turns.{closing, named, next_field, record_within};
 ghost use Rattle.std.specs.Prelude.{IfOk, IsTrue, length, option_copied, ◌+◌, ◌≡◌, ◌≤◌};
 
 use crate::descr::{Descr, Record};
