@@ -1,8 +1,8 @@
 //! Writes the text of a header.
 ghost use Rattle.std.specs.Prelude.{◌≡◌, ◌++◌, ◌&&◌, nat_eq, IfOk, OnOk};
-ghost use Rattle.npy_format.specs.Clauses.{spelling, shape_text, quoted, opened_entry, gap, entry_separator, separated, in_brackets, entries, written_descr, written_truth, written_text};
+ghost use Rattle.npy_format.specs.Clauses.{quoted, opened_entry, gap, entry_separator, separated, in_brackets, entries, written_descr, written_truth, written_text};
 
-use elem_descr::{Descr, Record, Scalar, typestr_write};
+use elem_descr::{Descr, Record, typestr_write};
 use itoa::Buffer;
 use shape_strides::Shape;
 use std::alloc::{AllocError, Global};
@@ -55,13 +55,6 @@ fn push_gap(text: &mut Vec<u8>, is_first: bool, bytes: usize) -> Result<bool, Al
     Ok(false)
 }
 
-fn push_scalar(alloc: Global, text: &mut Vec<u8>, scalar: &Scalar) -> Result<(), AllocError>
-    ensures { OnOk result (text.new.items ≡ text.old.items ++ quoted (spelling scalar.now)) }
-{
-    let spelled = typestr_write(alloc, *scalar)?;
-    push_quoted(text, spelled.as_slice())
-}
-
 /// The list of the fields, and of the gaps before each and after the last.
 #[cycle(written)]
 fn push_record(alloc: Global, text: &mut Vec<u8>, whole: &Record) -> Result<(), AllocError>
@@ -92,7 +85,7 @@ fn push_descr(alloc: Global, text: &mut Vec<u8>, descr: &Descr) -> Result<(), Al
     ensures { OnOk result (text.new.items ≡ text.old.items ++ written_descr descr.now) }
 {
     match descr {
-        Descr::Scalar(scalar) => push_scalar(alloc, text, scalar),
+        Descr::Scalar(scalar) => push_quoted(text, typestr_write(alloc, *scalar)?.as_slice()),
         Descr::Record(whole) => push_record(alloc, text, whole),
     }
 }
@@ -104,13 +97,6 @@ fn push_truth(text: &mut Vec<u8>, truth: bool) -> Result<(), AllocError>
         return text.extend_from_slice(b"True");
     }
     text.extend_from_slice(b"False")
-}
-
-fn push_shape(alloc: Global, text: &mut Vec<u8>, shape: &Shape) -> Result<(), AllocError>
-    ensures { OnOk result (text.new.items ≡ text.old.items ++ shape_text shape.now) }
-{
-    let spelled = format!(in alloc; "{shape}")?;
-    text.extend_from_slice(spelled.as_bytes())
 }
 
 /// The dictionary of a header.
@@ -128,7 +114,7 @@ pub fn header_text(
     text.extend_from_slice(b", 'fortran_order': ")?;
     push_truth(&mut text, fortran)?;
     text.extend_from_slice(b", 'shape': ")?;
-    push_shape(alloc, &mut text, shape)?;
+    text.extend_from_slice(format!(in alloc; "{shape}")?.as_bytes())?;
     text.extend_from_slice(b", }")?;
     Ok(text)
 }

@@ -10,9 +10,6 @@ use raw_block::RawBlock;
 use shape_strides::MAX_BYTES;
 use std::alloc::{AllocError, Global};
 
-/// The bytes that every file begins with.
-pub(crate) const MAGIC: [u8; 6] = *b"\x93NUMPY";
-
 /// The maximum length of a header.
 pub const MAX_HEADER: usize = 1 << 20;
 
