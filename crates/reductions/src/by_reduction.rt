@@ -47,10 +47,10 @@ pub(crate) fn result_scalar(reduction: Red, scalar: &Scalar) -> Scalar
 pub(crate) fn needs_items(reduction: Red) -> bool
     ensures { result ≡ needs_items reduction }
 {
-    match reduction {
-        Red::Minimum | Red::Maximum | Red::ArgMin | Red::ArgMax => true,
-        _ => false,
-    }
+    matches!(
+        reduction,
+        Red::Minimum | Red::Maximum | Red::ArgMin | Red::ArgMax
+    )
 }
 
 /// Whether the result depends on the order of the numbers.

@@ -16,9 +16,8 @@ pub(crate) fn number_scalar(descr: &Descr) -> Result<Scalar, Refusal>
     ensures err { IfErr result (λ refusal. number_scalar descr.now ≡ Err refusal) }
 {
     match descr {
-        Descr::Scalar(Scalar::Bytes(_)) => Err(Refusal::NotForThisKind),
+        Descr::Scalar(Scalar::Bytes(_)) | Descr::Record(_) => Err(Refusal::NotForThisKind),
         Descr::Scalar(scalar) => Ok(*scalar),
-        Descr::Record(_) => Err(Refusal::NotForThisKind),
     }
 }
 
@@ -124,23 +123,14 @@ pub(crate) fn shape_after(
     Shape::try_new(alloc, lengths.as_slice())
 }
 
-/// A shape without one of its axes, which has items.
-fn shape_without(alloc: Global, shape: &Shape, axis: usize) -> Result<Shape, AllocError>
-    requires axis { axis < length shape.now }
-    requires some { 1 ≤ slice_index shape.now axis }
-    ensures { IfOk result (λ s. s ≡ remove shape.now axis) }
-{
-    let lengths = without(alloc, shape.as_slice(), axis)?;
-    Shape::from_lengths(alloc, lengths.as_slice())
-}
-
 /// The starts of the lists along an axis: the items at index 0 on it.
 pub(crate) fn starts_of(alloc: Global, layout: &Layout, axis: usize) -> Result<Layout, AllocError>
     requires axis { axis < length layout.now.shape }
     requires some { 1 ≤ slice_index layout.now.shape axis }
     ensures { IfOk result (AreStarts layout.now axis) }
 {
-    let shape = shape_without(alloc, &layout.shape, axis)?;
+    let lengths = without(alloc, layout.shape.as_slice(), axis)?;
+    let shape = Shape::from_lengths(alloc, lengths.as_slice())?;
     let steps = without(alloc, layout.strides.as_slice(), axis)?;
     let strides = Strides::from_slice(alloc, steps.as_slice())?;
     Ok(Layout {

@@ -58,29 +58,6 @@ fn reduced_from(
     on_number(input.scalar, task)
 }
 
-/// A block with the reduction of all items, visited in the order of another layout of them.
-fn reduced_near(
-    alloc: Global,
-    reduction: Red,
-    input: Input<'_>,
-    near: &Layout,
-) -> Result<RawBlock, AllocError>
-    requires number { IsNumber input.scalar.now }
-    requires all { input.axis ≡ None }
-    requires some { 0 < count input.layout.now.shape }
-    requires free { depends_on_order reduction ≡ false }
-    requires same { IsPermutation (offsets input.layout.now) (offsets near.now) }
-    ensures { IfOk result (AreResults reduction input.entry) }
-{
-    let input = Input {
-        bytes: input.bytes,
-        layout: near,
-        scalar: input.scalar,
-        axis: None,
-    };
-    reduced_from(alloc, reduction, input, near, None)
-}
-
 /// A block with the reduction of all items, visited in the order of memory if their order does not
 /// matter.
 fn reduced_all(alloc: Global, reduction: Red, input: Input<'_>) -> Result<RawBlock, AllocError>
@@ -93,7 +70,15 @@ fn reduced_all(alloc: Global, reduction: Red, input: Input<'_>) -> Result<RawBlo
         return reduced_from(alloc, reduction, input, input.layout, None);
     }
     match in_memory_order(alloc, input.layout, input.layout) {
-        Some(pair) => reduced_near(alloc, reduction, input, &pair.target),
+        Some(pair) => {
+            let near = Input {
+                bytes: input.bytes,
+                layout: &pair.target,
+                scalar: input.scalar,
+                axis: None,
+            };
+            reduced_from(alloc, reduction, near, &pair.target, None)
+        }
         None => reduced_from(alloc, reduction, input, input.layout, None),
     }
 }
@@ -158,11 +143,6 @@ fn reduce_items(
     Ok(owned)
 }
 
-/// Whether all items are visited in the order of memory, and that is not C order.
-fn goes_by_memory(reduction: Red, layout: &Layout, axis: Option<i128>) -> bool {
-    axis.is_none() && !depends_on_order(reduction) && !lies_in_c_order(layout)
-}
-
 /// Reduces items along an axis, or all of them if no axis is given, into a block of their own in C
 /// order. A negative axis counts from the end. With `keep`, a reduced axis stays in the result with
 /// length 1.
@@ -186,9 +166,10 @@ pub fn reduce(
         (offsets items.entry.layout.now))) }
     ensures bytes { IfOk result (λ o. o.block ≡ flat_map (encode_item o.descr) (owned_items o)) }
 {
+    // Where the order does not matter, all items are visited in the order of memory.
     if axis.is_some()
         || items.descr.size() > 8
-        || goes_by_memory(reduction, items.layout, axis)
+        || !depends_on_order(reduction) && !lies_in_c_order(items.layout)
         || !goes_by_columns(items.layout)
     {
         return reduce_items(alloc, reduction, items, axis, keep);
