@@ -1,6 +1,6 @@
 //! Reductions of the items of an array.
 ghost use Rattle.std.specs.Prelude.{All, ◌≡◌, ◌+◌, ◌*◌, ◌<◌, ◌≤◌, true, false, pos, Some, None, length, map, slice_index, slice_index_or, IfOk};
-ghost use Rattle.reductions.specs.Clauses.{flat_map, IsPermutation, item_from, IsNumber, size, item_size, encode_item, Gives, C, count, offsets, max_items, offsets_in, owned_items, named_axis, list_length, lists, IsAxisOf, reduced_type, outcome_of, needs_items, reduced_items, lists_from, HaveItems, depends_on_order, lists_of, AreResults};
+ghost use Rattle.reductions.specs.Clauses.{flat_map, item_from, IsNumber, size, item_size, encode_item, Gives, C, count, offsets, max_items, offsets_in, owned_items, named_axis, list_length, lists, IsAxisOf, reduced_type, outcome_of, needs_items, reduced_items, lists_from, HaveItems, depends_on_order, lists_of, AreResults};
 
 use crate::by_reduction::{Reducing, depends_on_order, empty_block, result_scalar};
 use crate::lines::{Input, Lists};
