@@ -19,6 +19,9 @@ pub enum Member {
     Opened,
 }
 
+/// The letters and marks of PEP 3118 and of Python's `struct` that are unsupported.
+const UNSUPPORTED: &[u8] = b"cnNPpefdgOZuwt&X(";
+
 fn name_len(text: &[u8]) -> usize
     ensures value { result ≡ prefix_len (λ b. not (is_colon b)) text.now }
     ensures within { result ≤ length text.now }
@@ -46,7 +49,7 @@ fn text_member(digits: &[u8]) -> Result<Member, Refusal>
     }
 }
 
-/// A member whose letter has a count only if it is unsupported.
+/// A member without a count. With one, it is unsupported.
 fn uncounted(member: Member, digits: &[u8]) -> Result<Member, Refusal>
     ensures { result ≡ (if is_empty digits.now then Ok member else Err Refusal.DescriptorLeftOut) }
 {
@@ -71,7 +74,7 @@ fn lettered_before(mark: Mark, digits: &[u8], letter: u8, rest: &[u8]) -> Result
     match letter {
         b's' => text_member(digits),
         b'x' => Ok(Member::Pad(count(digits))),
-        _ if b"cnNPpefdgOZuwt&X(".contains(&letter) => Err(Refusal::DescriptorLeftOut),
+        _ if UNSUPPORTED.contains(&letter) => Err(Refusal::DescriptorLeftOut),
         _ => Err(Refusal::BadDescriptor),
     }
 }
