@@ -1,5 +1,5 @@
 //! Spaces, separators, and texts padded to a width.
-ghost use Rattle.std.specs.Prelude.{◌≡◌, ◌+◌, ◌≤◌, ◌++◌, codes, length, drop, slice_range, replicate, vec_capacity, IfOk, OnOk};
+ghost use Rattle.std.specs.Prelude.{◌≡◌, ◌+◌, ◌≤◌, ◌++◌, codes, length, drop, slice_range, replicate, vec_capacity, OnOk};
 ghost use Rattle.array_print.specs.Clauses.{StartsWith, separator, right_justified, record_end, lead, repeated};
 
 use std::alloc::AllocError;
@@ -52,16 +52,13 @@ fn push_separator(out: &mut Vec<u8>, brackets: usize, inner: usize) -> Result<()
 /// How many bytes of a text are copied at once.
 const COPIED: usize = 1024;
 
-/// Appends a copy of the bytes from `from` on, by 1,024 at once, as far as that goes without
-/// passing `to`. Returns how far it went. The bytes are held in between, so no memory is needed
-/// except room at the end.
-fn push_blocks(out: &mut Vec<u8>, from: usize, to: usize) -> Result<usize, AllocError>
+/// Appends a copy of the bytes from `from` to `to`, in place. As many as possible are copied by
+/// 1,024 at once, and held in between.
+fn push_within(out: &mut Vec<u8>, from: usize, to: usize) -> Result<(), AllocError>
     requires order { from ≤ to }
     requires inside { to ≤ length out.old.items }
-    ensures ok { IfOk result (λ done.
-        out.new.items ≡ out.old.items ++ slice_range out.old.items from done) }
-    ensures from { IfOk result (λ done. from ≤ done) }
-    ensures to { IfOk result (λ done. done ≤ to) }
+    ensures ok { OnOk result
+        (out.new.items ≡ out.old.items ++ slice_range out.old.items from to) }
     ensures kept { StartsWith out.new.items out.old.items }
     ensures room { vec_capacity out.old ≤ vec_capacity out.new }
 {
@@ -72,22 +69,6 @@ fn push_blocks(out: &mut Vec<u8>, from: usize, to: usize) -> Result<usize, Alloc
         out.extend_from_slice(&held)?;
         done += COPIED;
     }
-    Ok(done)
-}
-
-/// Appends a copy of the bytes from `from` to `to`, in place.
-fn push_within(out: &mut Vec<u8>, from: usize, to: usize) -> Result<(), AllocError>
-    requires order { from ≤ to }
-    requires inside { to ≤ length out.old.items }
-    ensures ok { OnOk result
-        (out.new.items ≡ out.old.items ++ slice_range out.old.items from to) }
-    ensures kept { StartsWith out.new.items out.old.items }
-    ensures room { vec_capacity out.old ≤ vec_capacity out.new }
-{
-    if to - from < COPIED {
-        return out.extend_from_within(from..to);
-    }
-    let done = push_blocks(out, from, to)?;
     out.extend_from_within(done..to)?;
     Ok(())
 }

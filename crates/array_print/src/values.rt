@@ -1,6 +1,6 @@
 //! The text of a single value.
 ghost use Rattle.std.specs.Prelude.{◌≡◌, ◌++◌, ◌≤◌, ◌<◌, length, flat_map, vec_capacity, OnOk};
-ghost use Rattle.array_print.specs.Clauses.{StartsWith, signed_decimal, IsNumber, size, decode, number_of, without_nuls, hex_digit, stands_for_itself, escaped, byte_string_text, bool_text, leaf_text, right_justified, IsWidth};
+ghost use Rattle.array_print.specs.Clauses.{StartsWith, size, decode, without_nuls, hex_digit, escaped, byte_string_text, leaf_text, right_justified, IsWidth};
 
 use crate::padding::push_padded;
 use elem_descr::{Scalar, num_read};
@@ -15,20 +15,13 @@ fn hex_digit(digit: u8) -> u8
     b"0123456789abcdef"[usize::from(digit)]
 }
 
-/// Whether a byte of a byte string is printed as itself.
-fn is_plain(byte: u8) -> bool
-    ensures { result ≡ stands_for_itself byte }
-{
-    byte >= b' ' && byte <= b'~' && !b"'\\".contains(&byte)
-}
-
-/// Appends a byte of a byte string.
+/// Appends a byte of a byte string: as itself, or escaped.
 fn push_escaped(out: &mut Vec<u8>, byte: u8) -> Result<(), AllocError>
     ensures ok { OnOk result (out.new.items ≡ out.old.items ++ escaped byte) }
     ensures kept { StartsWith out.new.items out.old.items }
     ensures room { vec_capacity out.old ≤ vec_capacity out.new }
 {
-    if is_plain(byte) {
+    if matches!(byte, b' '..=b'~') && !b"'\\".contains(&byte) {
         return out.extend_from_slice(&[byte]);
     }
     out.extend_from_slice(&[b'\\', b'x', hex_digit(byte / 16), hex_digit(byte % 16)])
@@ -69,31 +62,6 @@ fn push_byte_string(out: &mut Vec<u8>, bytes: &[u8]) -> Result<(), AllocError>
     out.extend_from_slice(b"'")
 }
 
-/// The text of a bool.
-fn bool_text(value: &i128) -> &'static str
-    ensures { result.now ≡ bool_text value.now }
-{
-    if *value == 0 { "False" } else { "True" }
-}
-
-/// Appends the text of an integer, padded on the left to a width.
-fn push_integer(
-    out: &mut Vec<u8>,
-    scalar: &Scalar,
-    width: usize,
-    bytes: &[u8],
-) -> Result<(), AllocError>
-    requires number { IsNumber scalar.now }
-    requires whole { length bytes.now ≡ size scalar.now }
-    ensures ok { OnOk result (out.new.items ≡ out.old.items
-        ++ right_justified width (signed_decimal (number_of (decode scalar.now bytes.now)))) }
-    ensures kept { StartsWith out.new.items out.old.items }
-    ensures room { vec_capacity out.old ≤ vec_capacity out.new }
-{
-    let value = num_read(*scalar, bytes);
-    push_padded(out, Buffer::new().format(value), width)
-}
-
 /// Appends the text of a value, padded on the left to a width.
 pub fn push_value(
     out: &mut Vec<u8>,
@@ -109,9 +77,14 @@ pub fn push_value(
     ensures room { vec_capacity out.old ≤ vec_capacity out.new }
 {
     match scalar {
-        Scalar::Bool => push_padded(out, bool_text(&num_read(*scalar, bytes)), width),
-        Scalar::Byte { .. } => push_integer(out, scalar, width, bytes),
-        Scalar::Int { .. } => push_integer(out, scalar, width, bytes),
+        Scalar::Bool => {
+            let is_false = num_read(*scalar, bytes) == 0;
+            push_padded(out, if is_false { "False" } else { "True" }, width)
+        }
+        Scalar::Byte { .. } | Scalar::Int { .. } => {
+            let value = num_read(*scalar, bytes);
+            push_padded(out, Buffer::new().format(value), width)
+        }
         Scalar::Bytes(_) => push_byte_string(out, bytes),
     }
 }

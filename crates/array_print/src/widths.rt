@@ -56,10 +56,8 @@ fn widened(width: usize, scalar: &Scalar, block: &[u8], place: usize) -> usize
         (take (size scalar.now) (drop place block.now))) ∷ []) }
 {
     match scalar {
-        Scalar::Bool => width,
-        Scalar::Bytes(_) => width,
-        Scalar::Byte { .. } => wider_at(width, scalar, block, place),
-        Scalar::Int { .. } => wider_at(width, scalar, block, place),
+        Scalar::Bool | Scalar::Bytes(_) => width,
+        Scalar::Byte { .. } | Scalar::Int { .. } => wider_at(width, scalar, block, place),
     }
 }
 

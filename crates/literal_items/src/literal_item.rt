@@ -40,12 +40,7 @@ fn can_hold(fields: &[Field], literals: &[Literal]) -> bool
 fn is_castable_to_all(leaves: &[Leaf], literal: &ScalarLiteral) -> bool
     ensures { result ≡ list_all (λ leaf. is_castable leaf.scalar literal.now) leaves.now }
 {
-    for leaf in leaves {
-        if !is_castable(&leaf.scalar, literal) {
-            return false;
-        }
-    }
-    true
+    leaves.iter().all(|leaf| is_castable(&leaf.scalar, literal))
 }
 
 /// Whether the literal can be an item of the descriptor; otherwise it is refused as `NoSuchCast`.

@@ -1,16 +1,35 @@
-use Rattle.std.proofs.Common.{◌++◌, slice_range, ap, ◌∙◌, append_assoc}
+use Rattle.std.proofs.Common.{◌+◌, ◌≤◌, ◌++◌, slice_range, ap, ◌∙◌, append_assoc, arith}
 use Rattle.array_print.proofs.PrintLaws.{slice-front, slices-join}
 use Rattle.array_print.proofs.padding.push_within.Goals as goal
+
+pub loop-done-preserved : goal.loop-done-preserved
+loop-done-preserved c =
+    let so_far = c.loop-done.invariant in
+    let old = c.args.out.now.items in
+    let from = c.args.from in
+    let done = c.loop-done.done in
+    let enough : done + 1024 ≤ c.args.to = omega (arith, c.loop-done-test.true, so_far.to) in
+    record {
+      pushed = c.in_ok-extend_from_slice.ensures.items
+          ∙ ap (λ copy. c.loop-done.out.items ++ copy) (c.copy_from_slice.ensures.after ∙ ap (λ l. slice_range l done (done + 1024)) (c.as_slice.ensures.value ∙ so_far.pushed)
+          ∙ slice-front old (slice_range old from done) done (done + 1024) (omega arith) (omega (arith, enough, c.requires.inside)))
+          ∙ ap (λ l. l ++ slice_range old done (done + 1024)) so_far.pushed
+          ∙ append_assoc old (slice_range old from done) (slice_range old done (done + 1024))
+          ∙ ap (λ l. old ++ l) (slices-join old from done (done + 1024) so_far.from (omega arith));
+      from = omega (arith, so_far.from);
+      to = enough;
+      room = omega (arith, so_far.room, c.in_ok-extend_from_slice.ensures.capacity);
+    }
 
 pub returns-clause-ok : goal.returns-clause-ok
 returns-clause-ok c =
     let old = c.args.out.now.items in
     let from = c.args.from in
-    let done = c.in_ok-done.done in
+    let done = c.loop-done.done in
     let to = c.args.to in
-    let blocks = c.in_ok-done.ensures in
+    let so_far = c.loop-done.invariant in
     c.in_ok-extend_from_within.ensures.items
-    ∙ ap (λ l. l ++ slice_range l done to) blocks.ok
-    ∙ ap (λ l. (old ++ slice_range old from done) ++ l) (slice-front old (slice_range old from done) done to blocks.to c.requires.inside)
+    ∙ ap (λ l. l ++ slice_range l done to) so_far.pushed
+    ∙ ap (λ l. (old ++ slice_range old from done) ++ l) (slice-front old (slice_range old from done) done to so_far.to c.requires.inside)
     ∙ append_assoc old (slice_range old from done) (slice_range old done to)
-    ∙ ap (λ l. old ++ l) (slices-join old from done to blocks.from blocks.to)
+    ∙ ap (λ l. old ++ l) (slices-join old from done to so_far.from so_far.to)

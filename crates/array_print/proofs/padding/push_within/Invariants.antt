@@ -1,5 +1,5 @@
 use Rattle.std.proofs.Common.{◌≡◌, ◌≤◌, ◌-◌, ◌++◌, slice_range, vec_capacity}
-use Rattle.array_print.proofs.padding.push_blocks.Given as goal
+use Rattle.array_print.proofs.padding.push_within.Given as goal
 
 -- the bytes so far are copied to the end
 abbrev pub invariant-loop-done : goal.invariant-loop-done
