@@ -1,6 +1,6 @@
 -- Byte strings that are cut, and padded with NULs.
 use Rattle.std.proofs.Common.{◌≡◌, ◌+◌, ◌-◌, ◌<◌, ◌≤◌, inl, inr, ℕ, List, ◌++◌, length, take, min, replicate, sym, ap, ◌∙◌, arith, append_assoc, length-take, length-append, append-nil}
-use Rattle.elementwise.proofs.Words.{cases_lt, take-append_seam, ints, length-replicate, take_all, take-take, take-append-le, replicate-append-replicate, without_nuls, padded, without_nuls-back, without_nuls-more, without_nuls-twice, length-without_nuls, nuls, place, length-item_at, item_in, Side}
+use Rattle.elementwise.proofs.Words.{cases_lt, take-append_seam, length-replicate, take_all, take-take, take-append-le, replicate-append-replicate, without_nuls, padded, without_nuls-back, without_nuls-more, without_nuls-twice, length-without_nuls, nuls}
 
 -- ---- padding
 
@@ -73,18 +73,3 @@ text_read_back n bytes le =
 -- a byte string that is not longer is unchanged
 pub text_stays : (n : ℕ) (bytes : List ℕ) → length bytes ≤ n → without_nuls (take n (without_nuls bytes)) ≡ without_nuls bytes
 text_stays n bytes le = ap without_nuls (take_all n (without_nuls bytes) (omega (arith, length-without_nuls bytes))) ∙ without_nuls-twice bytes
-
--- ---- byte strings that already have the length they are cut to
-
-cut-whole : (n : ℕ) (bytes : List ℕ) → length bytes ≡ n → bytes ≡ padded n (without_nuls (take n (without_nuls bytes)))
-cut-whole n bytes long =
-    let none : n - n ≡ 0 = omega arith in
-    sym (append-nil bytes)
-    ∙ (λ i. sym (take_all n bytes (omega (arith, long))) i ++ replicate (sym none i) 0)
-    ∙ text_pushed n n bytes (omega (arith, long))
-
-item-long : (side : Side) (k : ℕ) → k < side.run.count → length (item_in side k) ≡ side.width
-item-long side k low =
-    let lies = side.within.each k low in
-    let ends : place side.run.offset side.run.step k + side.width ≤ length side.bytes.now = omega (arith, ints, lies.0, lies.1) in
-    length-item_at (place side.run.offset side.run.step k) side.width side.bytes.now ends

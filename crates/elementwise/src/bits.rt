@@ -1,6 +1,6 @@
 //! Operations on numbers that are given by their lowest 64 bits; all higher bits repeat the sign.
 ghost use Rattle.std.specs.Prelude.{◌≡◌, ◌≤◌, Bool, int_lt};
-ghost use Rattle.elementwise.specs.Clauses.{Scalar, integer, low_bits, exact, floor_quotient, modulo, shifted_left, shifted_right, division_op, is_negative, magnitude_of};
+ghost use Rattle.elementwise.specs.Clauses.{Scalar, integer, low_bits, exact, floor_quotient, shifted_left, shifted_right, division_op, is_negative, magnitude_of};
 
 /// Whether the number is negative.
 #[inline(always)]
@@ -37,18 +37,7 @@ fn quotient(signed: bool, left: u64, right: u64) -> u64
     !((size - 1) / divisor)
 }
 
-/// The bits of a remainder. Division by 0 gives 0.
-#[inline(always)]
-fn rest(signed: bool, left: u64, right: u64) -> u64
-    ensures { result ≡ low_bits 8 (modulo (integer signed 8 left) (integer signed 8 right)) }
-{
-    if right == 0 {
-        return 0;
-    }
-    left.wrapping_sub(right.wrapping_mul(quotient(signed, left, right)))
-}
-
-/// The bits of a quotient or a remainder.
+/// The bits of a quotient or a remainder. Division by 0 gives 0.
 #[inline(always)]
 pub(crate) fn division(leaves: bool, signed: bool, left: u64, right: u64) -> u64
     ensures { (scalar : Scalar)
@@ -56,11 +45,14 @@ pub(crate) fn division(leaves: bool, signed: bool, left: u64, right: u64) -> u64
         ≡ low_bits 8
         (exact (division_op leaves) scalar (integer signed 8 left) (integer signed 8 right)) }
 {
-    if leaves {
-        rest(signed, left, right)
-    } else {
-        quotient(signed, left, right)
+    let whole = quotient(signed, left, right);
+    if !leaves {
+        return whole;
     }
+    if right == 0 {
+        return 0;
+    }
+    left.wrapping_sub(right.wrapping_mul(whole))
 }
 
 /// The bits of a number of `width` bits, shifted left. The shift itself is by less than `width`,

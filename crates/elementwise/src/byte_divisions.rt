@@ -1,5 +1,5 @@
 //! Divisions of pairs of unsigned numbers of one byte, by a table of reciprocals.
-ghost use Rattle.std.specs.Prelude.{false, get_or, unsigned_abs, ℕ, ◌*◌, ◌++◌, ◌+◌, ◌-◌, ◌/◌, ◌<◌, ◌^◌, ◌≡◌, ◌≤◌};
+ghost use Rattle.std.specs.Prelude.{false, get_or, ℕ, ◌*◌, ◌++◌, ◌+◌, ◌-◌, ◌/◌, ◌<◌, ◌^◌, ◌≡◌, ◌≤◌};
 ghost use Rattle.elementwise.specs.Clauses.{binary, exact, floor_quotient, Little, Scalar, integer, joined, low_bits, division_op, number_pair, made_of, pair_count};
 
 use crate::operands::note_slice;
@@ -54,18 +54,6 @@ impl Reciprocals {
         }
         left.wrapping_sub(right.wrapping_mul(quotient))
     }
-
-    /// The quotient or the remainder of two numbers.
-    #[inline(always)]
-    fn divided<const LEAVES: bool, N: Number>(&self, left: N, right: N) -> N
-        requires unsigned { N.SIGNED ≡ false }
-        requires left { unsigned_abs (N.value left) < 256 }
-        requires right { unsigned_abs (N.value right) < 256 }
-        ensures { N.value result
-            ≡ binary (division_op LEAVES) (N.scalar Little) (N.value left) (N.value right) }
-    {
-        N::of_bits(self.division(LEAVES, left.bits(), right.bits()))
-    }
 }
 
 /// Appends the quotients or remainders of pairs of unsigned numbers of one byte.
@@ -91,9 +79,8 @@ pub(crate) fn push_divided_bytes<const LEAVES: bool, N: Number, O: Ordered>(
     for k in 0..pairs.left.run.count {
         let left = pairs.left.number::<N, O>(k);
         let right = pairs.right.number::<N, O>(k);
-        reciprocals
-            .divided::<LEAVES, N>(left, right)
-            .push::<LowFirst>(&mut block);
+        let bits = reciprocals.division(LEAVES, left.bits(), right.bits());
+        N::of_bits(bits).push::<LowFirst>(&mut block);
     }
     block
 }

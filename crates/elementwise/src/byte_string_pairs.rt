@@ -1,21 +1,25 @@
 //! Comparisons of byte strings, row by row.
 ghost use Rattle.std.proofs.Common.{arith};
-ghost use Rattle.std.specs.Prelude.{IfSome, take, ◌≡◌, ◌≤◌};
-ghost use Rattle.elementwise.specs.Clauses.{BoolScalar, compared, encode, item_in, joined, padded, text, without_nuls, text_pair, truth_value};
+ghost use Rattle.std.specs.Prelude.{◌≡◌, ◌≤◌};
+ghost use Rattle.elementwise.specs.Clauses.{BoolScalar, compared, encode, text, without_nuls, text_pair, truth_value};
 
-use crate::byte_strings::{shared_words, without_nul_words, word_at};
+use crate::byte_strings::{shared_words, word_at};
 use crate::comparison_kernels::says;
 use crate::pairing::Pairs;
 use crate::row_pairs::Pass;
 use elem_descr::{BytesLen, Comparison};
-use machine_numbers::{LowFirst, Number, Side};
+use machine_numbers::{LowFirst, Number, Ordered, Side};
 use raw_block::BlockBuilder;
 
-/// A byte string without its trailing NULs.
+/// A byte string without its trailing NULs, of which whole words go first.
 pub(crate) fn without_nuls(item: &[u8]) -> &[u8]
     ensures { result.now ≡ without_nuls item.now }
 {
-    let item = &item[..without_nul_words(item)];
+    let mut len = item.len();
+    while len >= 8 && LowFirst::read_eight(&item[len - 8..len]) == 0 {
+        len -= 8;
+    }
+    let item = &item[..len];
     let nuls = item.iter().rev().take_while(|b| **b == 0).count();
     &item[..item.len() - nuls]
 }

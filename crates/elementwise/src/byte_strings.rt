@@ -92,15 +92,3 @@ pub(crate) fn word_at<const LEN: usize>(bytes: &[u8], at: usize) -> u64
         _ => HighFirst::read_eight(word),
     }
 }
-
-/// The length of a byte string without whole words of trailing NULs.
-pub(crate) fn without_nul_words(item: &[u8]) -> usize
-    ensures few { result ≤ length item.now }
-    ensures same { without_nuls (take result item.now) ≡ without_nuls item.now }
-{
-    let mut len = item.len();
-    while len >= 8 && LowFirst::read_eight(&item[len - 8..len]) == 0 {
-        len -= 8;
-    }
-    len
-}

@@ -1,22 +1,18 @@
 //! Which casts exist, and which of them keep the bytes of items.
 ghost use Rattle.std.specs.Prelude.{IsTrue, length, ℕ, ◌+◌, ◌<◌, ◌↔◌, ◌≡◌, ◌≤◌};
-ghost use Rattle.elementwise.specs.Clauses.{can_cast, can_cast_fields, can_cast_scalar, cast_item, AreAlike, item_from, item_size, leaf_at, leaves_of, listed, can_cast_field, list_all};
+ghost use Rattle.elementwise.specs.Clauses.{can_cast, can_cast_fields, can_cast_scalar, cast_item, AreAlike, item_from, item_size, listed, can_cast_field, list_all};
 
 use crate::casts::leaf_of;
 use crate::operands::note_slice;
 use elem_descr::{Descr, Field, Leaf, Scalar};
+use machine_numbers::is_text;
 use raw_block::RawBlock;
 
 /// Whether a value of one scalar can be cast to another.
 fn can_cast_scalar(from: &Scalar, to: &Scalar) -> bool
     ensures { result ≡ can_cast_scalar from.now to.now }
 {
-    match (from, to) {
-        (Scalar::Bytes(_), Scalar::Bytes(_)) => true,
-        (Scalar::Bytes(_), _) => false,
-        (_, Scalar::Bytes(_)) => false,
-        _ => true,
-    }
+    is_text(from) == is_text(to)
 }
 
 /// Whether a scalar can be cast to each of the leaves.
@@ -70,17 +66,6 @@ pub fn can_cast(from: &Descr, to: &Descr) -> bool
     }
 }
 
-/// Whether the `k`-th leaves of two element types are the same.
-fn is_same_leaf(a: &Descr, b: &Descr, k: usize) -> bool
-    requires a { k < length (leaves_of a.now) }
-    requires b { k < length (leaves_of b.now) }
-    ensures { IsTrue result ↔ leaf_at a.now k ≡ leaf_at b.now k }
-{
-    let leaf = leaf_of(a, k);
-    let other = leaf_of(b, k);
-    leaf == other
-}
-
 /// Whether items of two element types are stored in the same way.
 pub fn are_alike(a: &Descr, b: &Descr) -> bool
     ensures { IsTrue result ↔ AreAlike a.now b.now }
@@ -93,7 +78,7 @@ pub fn are_alike(a: &Descr, b: &Descr) -> bool
         return false;
     }
     for k in 0..count {
-        if !is_same_leaf(a, b, k) {
+        if leaf_of(a, k) != leaf_of(b, k) {
             return false;
         }
     }

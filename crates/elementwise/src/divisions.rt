@@ -2,7 +2,7 @@
 //! used.
 ghost use Rattle.elementwise.specs.Bits.{IsTruth};
 ghost use Rattle.elementwise.specs.Operations.{binary, exact, floor_quotient};
-ghost use Rattle.std.specs.Prelude.{IfSome, IsTrue, false, pos, true, unsigned_abs, ℕ, ◌*◌, ◌++◌, ◌+◌, ◌-◌, ◌/◌, ◌<◌, ◌^◌, ◌≡◌, ◌≤◌};
+ghost use Rattle.std.specs.Prelude.{IfSome, true, unsigned_abs, ℕ, ◌*◌, ◌++◌, ◌+◌, ◌-◌, ◌/◌, ◌<◌, ◌^◌, ◌≡◌, ◌≤◌};
 ghost use Rattle.elementwise.specs.Words.{Little, Scalar, integer, is_bool, joined, low_bits, number_of_side};
 ghost use Rattle.elementwise.specs.inside.PairPasses.{division_op, number_pair};
 ghost use Rattle.elementwise.specs.inside.Sides.{made_of, pair_count};
@@ -45,20 +45,6 @@ fn divisor_of<N: Number, O: Ordered>(pairs: Pairs<'_, '_>) -> Option<Divisor>
     }
 }
 
-/// The quotient or the remainder of a number.
-#[inline(always)]
-fn divided<const LEAVES: bool, N: Number>(left: N, divisor: Divisor) -> N
-    requires signed { divisor.signed ≡ N.SIGNED }
-    requires truth { is_bool (N.scalar Little) ≡ true → IsTruth (integer N.SIGNED 8 divisor.bits) }
-    requires small { unsigned_abs (N.value left) < 2 ^ (8 * N.WIDTH) }
-    requires also { unsigned_abs (integer N.SIGNED 8 divisor.bits) < 2 ^ (8 * N.WIDTH) }
-    ensures { N.value result
-        ≡ binary (division_op LEAVES) (N.scalar Little) (N.value left)
-        (integer N.SIGNED 8 divisor.bits) }
-{
-    N::of_bits(divisor.division(LEAVES, N::SIGNED, N::WIDTH, left.bits()))
-}
-
 /// Appends the quotients or remainders of the first numbers of pairs, which all have this divisor.
 #[inline(always)]
 fn push_divided<const LEAVES: bool, N: Number, O: Ordered>(
@@ -83,24 +69,10 @@ fn push_divided<const LEAVES: bool, N: Number, O: Ordered>(
     let mut block = block;
     for k in 0..pairs.left.run.count {
         let left = pairs.left.number::<N, O>(k);
-        divided::<LEAVES, N>(left, divisor).push::<LowFirst>(&mut block);
+        let bits = divisor.division(LEAVES, N::SIGNED, N::WIDTH, left.bits());
+        N::of_bits(bits).push::<LowFirst>(&mut block);
     }
     block
-}
-
-/// Whether these are many pairs of unsigned numbers of one byte, adjacent on both sides.
-fn are_many_bytes<N: Number>(pairs: Pairs<'_, '_>) -> bool
-    ensures byte { IsTrue result → N.WIDTH ≡ 1 }
-    ensures unsigned { IsTrue result → N.SIGNED ≡ false }
-    ensures left { IsTrue result → pairs.entry.left.run.step ≡ pos 1 }
-    ensures right { IsTrue result → pairs.entry.right.run.step ≡ pos 1 }
-{
-    let Pairs { left, right } = pairs;
-    N::WIDTH == 1
-        && !N::SIGNED
-        && left.run.count >= MANY_BYTES
-        && left.run.step == 1
-        && right.run.step == 1
 }
 
 /// Quotients or remainders of numbers in a byte order.
@@ -118,14 +90,16 @@ impl<const LEAVES: bool, N: Number, O: Ordered> Pass for Divisions<LEAVES, N, O>
     ghost not_empty = { λ _. N.is_small.0 };
 
     fn push_row(&self, block: BlockBuilder, pairs: Pairs<'_, '_>) -> BlockBuilder {
+        let Pairs { left, right } = pairs;
         let near = N::WIDTH as isize;
+        let many_bytes = N::WIDTH == 1 && !N::SIGNED && left.run.count >= MANY_BYTES;
         match divisor_of::<N, O>(pairs) {
-            Some(divisor) if pairs.left.run.step == near => {
-                let pairs = pairs.with_steps(N::WIDTH as isize, pairs.right.run.step);
+            Some(divisor) if left.run.step == near => {
+                let pairs = pairs.with_steps(N::WIDTH as isize, right.run.step);
                 push_divided::<LEAVES, N, O>(block, pairs, divisor)
             }
             Some(divisor) => push_divided::<LEAVES, N, O>(block, pairs, divisor),
-            None if are_many_bytes::<N>(pairs) => {
+            None if many_bytes && left.run.step == 1 && right.run.step == 1 => {
                 push_divided_bytes::<LEAVES, N, O>(block, pairs.with_steps(1, 1))
             }
             None => {

@@ -79,32 +79,8 @@ fn made_sixteen<K: Kernel<A, B, T>, A: Number, B: Number, T: Number, O: Ordered,
     made
 }
 
-/// Appends the results for the pairs, a byte each, in groups of sixteen, as far as there are whole
-/// groups. Each group fills a vector, however wide the numbers are.
-#[inline(always)]
-fn push_sixteens<K: Kernel<A, B, T>, A: Number, B: Number, T: Number, O: Ordered, Q: Ordered>(
-    block: BlockBuilder,
-    pairs: Pairs<'_, '_>,
-) -> BlockBuilder
-    requires left { pairs.left.width ≡ A.WIDTH }
-    requires right { pairs.right.width ≡ B.WIDTH }
-    requires byte { T.WIDTH ≡ 1 }
-    requires room { pair_count pairs ≤ block.1 }
-    ensures bytes { result.0 ≡ block.0
-        ++ joined (made_of
-        (number_pair (A.scalar O.order) (B.scalar O.order) (T.scalar Q.order) K.makes) pairs.entry)
-        (16 * (pair_count pairs.entry / 16)) }
-    ensures left { 16 * (pair_count pairs.entry / 16) + result.1 ≡ block.1 }
-{
-    let mut block = block;
-    for group in 0..pairs.left.run.count / 16 {
-        let made = made_sixteen::<K, A, B, T, O, Q>(pairs, 16 * group);
-        block.push_array::<16>(made);
-    }
-    block
-}
-
-/// Appends the result for each pair.
+/// Appends the result for each pair. Results of one byte are made in groups of sixteen: each group
+/// fills a vector, however wide the numbers are.
 #[inline(always)]
 fn push_each<K: Kernel<A, B, T>, A: Number, B: Number, T: Number, O: Ordered, Q: Ordered>(
     block: BlockBuilder,
@@ -122,8 +98,13 @@ fn push_each<K: Kernel<A, B, T>, A: Number, B: Number, T: Number, O: Ordered, Q:
     if T::WIDTH > 1 || A::WIDTH == 1 {
         return push_from::<K, A, B, T, O, Q>(block, pairs, 0);
     }
-    let block = push_sixteens::<K, A, B, T, O, Q>(block, pairs);
-    push_from::<K, A, B, T, O, Q>(block, pairs, 16 * (pairs.left.run.count / 16))
+    let mut block = block;
+    let groups = pairs.left.run.count / 16;
+    for group in 0..groups {
+        let made = made_sixteen::<K, A, B, T, O, Q>(pairs, 16 * group);
+        block.push_array::<16>(made);
+    }
+    push_from::<K, A, B, T, O, Q>(block, pairs, 16 * groups)
 }
 
 /// A kernel over numbers that are read in one byte order and written in another.

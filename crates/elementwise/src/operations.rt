@@ -1,7 +1,7 @@
 //! Operations on operands of one number type, and the kernels that do them. Each operation works on
 //! the lowest 64 bits, of which a number keeps as many as its type has.
 ghost use Rattle.std.specs.Prelude.{◌≡◌, ◌+◌, ◌*◌, ◌≤◌, ◌++◌, true, ◌-ℤ◌};
-ghost use Rattle.elementwise.specs.Clauses.{Little, size, integer, wrap, item_size, Add, Subtract, Multiply, And, Or, Xor, ShiftLeft, ShiftRight, is_bool, binary, serves_bools, serves_one, division_op, number_pair, pairs_of, made_of_all, target, meaning, IsWork};
+ghost use Rattle.elementwise.specs.Clauses.{Little, size, integer, wrap, item_size, Add, Subtract, Multiply, And, Or, Xor, ShiftLeft, ShiftRight, is_bool, binary, serves_bools, division_op, number_pair, pairs_of, made_of_all, target, meaning, IsWork};
 
 use crate::bits;
 use crate::cast_kernels::cast;
@@ -11,7 +11,7 @@ use crate::kernels::{Kernel, push_made};
 use crate::pairing::Work;
 use crate::row_pairs::Operands;
 use elem_descr::{BinOp, Scalar, UnOp};
-use machine_numbers::{LowFirst, Number, NumberTask, Ordered, is_bool, is_text};
+use machine_numbers::{LowFirst, Number, NumberTask, Ordered};
 use raw_block::BlockBuilder;
 use std::marker::PhantomData;
 
@@ -200,15 +200,5 @@ pub(crate) fn serves_bools(op: BinOp) -> bool
         | BinOp::ShiftLeft
         | BinOp::ShiftRight => false,
         _ => true,
-    }
-}
-
-/// Whether an operation accepts items of a type.
-pub(crate) fn serves_one(op: UnOp, scalar: &Scalar) -> bool
-    ensures { result ≡ serves_one op scalar.now }
-{
-    match op {
-        UnOp::Negate => !is_text(scalar) && !is_bool(scalar),
-        UnOp::Invert => !is_text(scalar),
     }
 }

@@ -6,7 +6,7 @@ ghost use Rattle.elementwise.specs.inside.Operands.{made_of_all, pairs_of};
 use crate::byte_string_pairs::{ComparingTexts, ComparingWith};
 use crate::comparison_kernels::compare;
 use crate::operations::Working;
-use crate::promotion::eight_bytes;
+use crate::promotion::integer_type;
 use crate::row_pairs::Operands;
 use crate::text_comparisons::push_texts;
 use elem_descr::{BinOp, BytesLen, Comparison, Scalar, UnOp};
@@ -58,7 +58,7 @@ impl<'a> Pairing<'a> {
     {
         match self {
             Pairing::Alike { scalar, .. } => *scalar,
-            Pairing::Signs { left_signed, .. } => eight_bytes(*left_signed),
+            Pairing::Signs { left_signed, .. } => integer_type(*left_signed, 8),
             Pairing::Texts(texts) => Scalar::Bytes(texts.width),
             Pairing::With { width, .. } => Scalar::Bytes(*width),
         }
@@ -70,7 +70,7 @@ impl<'a> Pairing<'a> {
     {
         match self {
             Pairing::Alike { scalar, .. } => *scalar,
-            Pairing::Signs { left_signed, .. } => eight_bytes(!*left_signed),
+            Pairing::Signs { left_signed, .. } => integer_type(!*left_signed, 8),
             Pairing::Texts(texts) => Scalar::Bytes(texts.other_width),
             Pairing::With { width, .. } => Scalar::Bytes(*width),
         }

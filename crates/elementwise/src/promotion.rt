@@ -1,8 +1,8 @@
 //! The types of results, as NumPy 2 promotes the types of operands.
 ghost use Rattle.std.specs.Prelude.{◌≡◌, ◌≤◌, not, ◌&&◌, ◌||◌};
-ghost use Rattle.elementwise.specs.Clauses.{Little, Eight, Int, Answers, is_bool, is_text, is_signed, little, rank_of_kind, same_kind, integer_type, mixed_type, common_integers, common_type, promote, are_comparable, compared_type, literal_type, promote_one, serves_bools, scalar_of};
+ghost use Rattle.elementwise.specs.Clauses.{Little, Eight, Int, Answers, is_bool, is_text, is_signed, little, rank_of_kind, same_kind, integer_type, mixed_type, common_type, promote, compared_type, literal_type, promote_one, serves_bools, scalar_of};
 
-use crate::operations::{serves_bools, serves_one};
+use crate::operations::serves_bools;
 use elem_descr::{BinOp, Descr, Order, Refusal, Scalar, UnOp, Width};
 use machine_numbers::{is_bool, is_signed, is_text, little};
 
@@ -23,28 +23,14 @@ fn rank_of_kind(scalar: &Scalar) -> usize
 pub fn same_kind(from: Scalar, to: Scalar) -> Result<(), Refusal>
     ensures { Answers (λ _. tt) result (same_kind from to) }
 {
-    if is_text(&from) || is_text(&to) {
-        return Err(Refusal::NotSameKind);
-    }
-    if rank_of_kind(&from) > rank_of_kind(&to) {
+    if is_text(&from) || is_text(&to) || rank_of_kind(&from) > rank_of_kind(&to) {
         return Err(Refusal::NotSameKind);
     }
     Ok(())
 }
 
-/// The little-endian integers of eight bytes.
-pub(crate) fn eight_bytes(signed: bool) -> Scalar
-    ensures { result ≡ Int signed Eight Little }
-{
-    Scalar::Int {
-        signed,
-        width: Width::Eight,
-        order: Order::Little,
-    }
-}
-
 /// The little-endian integers of `bytes` bytes.
-fn integer_type(signed: bool, bytes: usize) -> Scalar
+pub(crate) fn integer_type(signed: bool, bytes: usize) -> Scalar
     ensures { result ≡ integer_type signed bytes }
 {
     let width = match bytes {
@@ -72,18 +58,6 @@ fn mixed_type(unsigned: usize, signed: usize) -> Result<Scalar, Refusal>
     Ok(integer_type(true, signed.max(unsigned * 2)))
 }
 
-fn common_integers(left: &Scalar, right: &Scalar) -> Result<Scalar, Refusal>
-    ensures { Answers (λ s. s) result (common_integers left.now right.now) }
-{
-    let first = left.size();
-    let second = right.size();
-    match (is_signed(left), is_signed(right)) {
-        (false, true) => mixed_type(first, second),
-        (true, false) => mixed_type(second, first),
-        (signed, _) => Ok(integer_type(signed, first.max(second))),
-    }
-}
-
 /// The smallest type that holds the numbers of two types, or `NeedsFloats` if there is none.
 pub(crate) fn common_type(left: &Scalar, right: &Scalar) -> Result<Scalar, Refusal>
     ensures { Answers (λ s. s) result (common_type left.now right.now) }
@@ -94,15 +68,13 @@ pub(crate) fn common_type(left: &Scalar, right: &Scalar) -> Result<Scalar, Refus
     if is_bool(right) {
         return Ok(little(left));
     }
-    common_integers(left, right)
-}
-
-/// Whether an operation accepts two types, as far as bools are concerned: some do not accept two
-/// bools.
-fn serves(op: BinOp, left: &Scalar, right: &Scalar) -> bool
-    ensures { result ≡ (serves_bools op || not (is_bool left.now && is_bool right.now)) }
-{
-    serves_bools(op) || !(is_bool(left) && is_bool(right))
+    let first = left.size();
+    let second = right.size();
+    match (is_signed(left), is_signed(right)) {
+        (false, true) => mixed_type(first, second),
+        (true, false) => mixed_type(second, first),
+        (signed, _) => Ok(integer_type(signed, first.max(second))),
+    }
 }
 
 /// The type of the result of an operation on items of two types: for bools and integers the
@@ -117,7 +89,7 @@ pub fn promote(op: BinOp, left: Scalar, right: Scalar) -> Result<Scalar, Refusal
     if is_text(&left) || is_text(&right) {
         return Err(Refusal::NotForThisKind);
     }
-    if !serves(op, &left, &right) {
+    if is_bool(&left) && is_bool(&right) && !serves_bools(op) {
         return Err(Refusal::NotForThisKind);
     }
     if matches!(op, BinOp::Divide) {
@@ -126,21 +98,13 @@ pub fn promote(op: BinOp, left: Scalar, right: Scalar) -> Result<Scalar, Refusal
     common_type(&left, &right)
 }
 
-/// Whether items of two types can be compared: numbers with numbers, and byte strings with byte
-/// strings.
-fn are_comparable(left: &Scalar, right: &Scalar) -> bool
-    ensures { result ≡ are_comparable left.now right.now }
-{
-    is_text(left) == is_text(right)
-}
-
 /// The type of the result of a comparison of items of two types, which is bool. `NotForThisKind`
 /// for numbers with byte strings.
 #[tactic(auto, unfolding(crate::specs::Promotion::compared_type))]
 pub fn compared_type(left: Scalar, right: Scalar) -> Result<Scalar, Refusal>
     ensures { Answers (λ s. s) result (compared_type left right) }
 {
-    if !are_comparable(&left, &right) {
+    if is_text(&left) != is_text(&right) {
         return Err(Refusal::NotForThisKind);
     }
     Ok(Scalar::Bool)
@@ -163,7 +127,7 @@ pub fn literal_type(scalar: Scalar) -> Scalar
 pub fn promote_one(op: UnOp, scalar: Scalar) -> Result<Scalar, Refusal>
     ensures { Answers (λ s. s) result (promote_one op scalar) }
 {
-    if !serves_one(op, &scalar) {
+    if is_text(&scalar) || matches!(op, UnOp::Negate) && is_bool(&scalar) {
         return Err(Refusal::NotForThisKind);
     }
     Ok(little(&scalar))

@@ -1,6 +1,17 @@
-use Rattle.std.proofs.Common.{arith, rules}
+use Rattle.std.proofs.Common.{◌≡◌, sym, subst, inl, inr, arith, rules}
+use Rattle.elementwise.proofs.Words.{cases_lt, leaf_at}
 use Rattle.elementwise.proofs.AlikeLaws.{alike}
 use Rattle.elementwise.proofs.castable.are_alike.Goals as goal
+
+pub loop-k-preserved : goal.loop-k-preserved
+loop-k-preserved c = λ i low.
+    let a = c.args.a.now in
+    let b = c.args.b.now in
+    let same : leaf_at a c.loop-k.k ≡ leaf_at b c.loop-k.k = search rules in
+    elim (cases_lt i c.loop-k.k) as (λ _. leaf_at a i ≡ leaf_at b i) [
+      | inl less ↦ c.loop-k.invariant i less
+      | inr from ↦ let is : c.loop-k.k ≡ i = omega (arith, low, from) in subst (λ k. leaf_at a k ≡ leaf_at b k) is same
+    ]
 
 pub returns : goal.returns
 returns c =

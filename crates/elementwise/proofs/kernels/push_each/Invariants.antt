@@ -1,6 +1,6 @@
 use Rattle.std.proofs.Common.{◌≡◌, ◌+◌, ◌*◌, ◌++◌}
 use Rattle.elementwise.proofs.Words.{joined, number_pair, made_of}
-use Rattle.elementwise.proofs.kernels.push_sixteens.Given as goal
+use Rattle.elementwise.proofs.kernels.push_each.Given as goal
 
 abbrev pub invariant-loop-group : goal.invariant-loop-group
 invariant-loop-group g l =

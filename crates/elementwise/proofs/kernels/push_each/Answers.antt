@@ -1,6 +1,13 @@
-use Rattle.std.proofs.Common.{◌≡◌, ◌+◌, ◌*◌, ◌++◌, ap, ◌∙◌, append_assoc, arith}
+use Rattle.std.proofs.Common.{◌≡◌, ◌≤◌, ◌+◌, ◌*◌, ◌++◌, ap, ◌∙◌, append_assoc, arith}
 use Rattle.elementwise.proofs.Words.{joined, joined-add, number_pair, made_of}
-use Rattle.elementwise.proofs.kernels.push_sixteens.Goals as goal
+use Rattle.elementwise.proofs.kernels.push_each.Goals as goal
+
+pub push_array-requires : goal.push_array-requires
+push_array-requires g c =
+    let one : g.T.Number.WIDTH ≡ 1 = omega (arith, c.if-WIDTH-gt1.false, c.WIDTH.ensures, g.met.T.Number.is_small.0) in
+    let count = c.args.pairs.left.run.count in
+    let room : count ≤ c.args.block.1 = omega (arith, c.requires.room, ap (λ w. count * w) one) in
+    (omega arith, omega (arith, room, c.loop-group-test.true, c.loop-group.invariant.left))
 
 pub loop-group-preserved : goal.loop-group-preserved
 loop-group-preserved g c =
