@@ -1,7 +1,7 @@
 //! The checks of an index list with arrays. Each check covers the whole list before the next one
 //! begins.
 ghost use Rattle.std.specs.Prelude.{◌≡◌, ◌≤◌, length, nat_le, IfOk, IfErr, Err};
-ghost use Rattle.fancy_index.specs.Clauses.{list_all, max_axes, is_index, array_axes_taken, covers, cover, indexed, index_item_of, index_items, items_left, IsChecked};
+ghost use Rattle.fancy_index.specs.Clauses.{list_all, max_axes, is_index, array_axes_taken, cover, indexed, index_items, items_left, IsChecked};
 
 use crate::index_array::kind;
 use crate::index_parts::Kind;
@@ -10,37 +10,18 @@ use arrays::Items;
 use elem_descr::{IndexItem, Refusal};
 use view_ops::have_steps;
 
-fn is_index(item: IndexItem<Items<'_>>) -> bool
-    ensures { result ≡ is_index (index_item_of item.entry) }
-{
-    match item {
-        IndexItem::Array(array) => kind(array) != Kind::NoIndex,
-        _ => true,
-    }
-}
-
 /// Whether each array in the list can be an index.
 fn are_indexes(items: &[IndexItem<Items<'_>>]) -> bool
     ensures { result ≡ list_all is_index (index_items items.now) }
 {
     for item in items {
-        if !is_index(*item) {
+        if let IndexItem::Array(array) = item
+            && kind(*array) == Kind::NoIndex
+        {
             return false;
         }
     }
     true
-}
-
-fn covers(axes: &[usize], item: IndexItem<Items<'_>>) -> bool
-    ensures { result ≡ covers axes.now (index_item_of item.entry) }
-{
-    match item {
-        IndexItem::Array(array) => match kind(array) {
-            Kind::Mask => array.layout.shape.as_slice() == axes,
-            _ => true,
-        },
-        _ => true,
-    }
 }
 
 /// Whether each mask has the lengths of its axes.
@@ -49,7 +30,10 @@ fn cover(left: Left<'_>) -> bool
 {
     let mut left = left;
     while let Some((item, axes)) = left.next() {
-        if !covers(axes, item) {
+        if let IndexItem::Array(array) = item
+            && kind(array) == Kind::Mask
+            && array.layout.shape.as_slice() != axes
+        {
             return false;
         }
     }

@@ -1,6 +1,6 @@
 //! The parts of an index list.
-ghost use Rattle.std.specs.Prelude.{All, IfErr, IfOk, OnOk, false, length, map, true, ◌∷◌, ◌≡◌, ◌≤◌};
-ghost use Rattle.fancy_index.specs.Clauses.{are_within, covers, is_index, is_within, item_axes, kind_of, Between, parts, parts_of, wholes, index_item_of, has_step, is_ellipsis, max_items, IsOutside, IsWithin, items_left, AddsParts, AreParts, IsChecked, all_named, is_named, shown_part};
+ghost use Rattle.std.specs.Prelude.{All, IfErr, IfOk, OnOk, false, length, map, true, ◌≡◌, ◌≤◌};
+ghost use Rattle.fancy_index.specs.Clauses.{are_within, covers, is_index, is_within, item_axes, kind_of, Between, parts, parts_of, wholes, index_item_of, has_step, is_ellipsis, max_items, IsOutside, IsWithin, items_left, AddsParts, AreParts, IsChecked, all_named, shown_part};
 
 use crate::lists::Left;
 use crate::points::{PointList, Ranks, array_points, integer_point};
@@ -27,14 +27,6 @@ fn push_wholes(parts: &mut Vec<IndexPart<'_>>, axes: &[usize]) -> Result<(), All
         parts.push(IndexPart::Axis(whole_axis(*n)))?;
     }
     Ok(())
-}
-
-fn push_between(parts: &mut Vec<IndexPart<'_>>, axes: &[usize]) -> Result<(), AllocError>
-    ensures { let there = Between ∷ wholes axes.now in
-        OnOk result (AddsParts parts.old.items parts.new.items axes.now true there) }
-{
-    parts.push(IndexPart::Between)?;
-    push_wholes(parts, axes)
 }
 
 /// Adds the parts of an item, given the axes that it takes, or refuses one of its numbers. An array
@@ -65,7 +57,10 @@ fn push_parts<'a>(
             let pick = pick_of(axes[0], &item);
             Ok(parts.push(IndexPart::Axis(pick))?)
         }
-        IndexItem::Ellipsis => Ok(push_between(parts, axes)?),
+        IndexItem::Ellipsis => {
+            parts.push(IndexPart::Between)?;
+            Ok(push_wholes(parts, axes)?)
+        }
         IndexItem::NewAxis => Ok(parts.push(IndexPart::Axis(AxisPick::New))?),
         IndexItem::Array(array) => {
             let points = array_points(alloc, axes, array)?;
@@ -95,30 +90,16 @@ pub(crate) fn parts_of<'a>(alloc: Global, left: Left<'a>) -> Result<Vec<IndexPar
     Ok(parts)
 }
 
-/// Refuses a number of a part that is out of range.
-fn check_part(alloc: Global, part: &IndexPart<'_>) -> Result<(), Refusal>
-    ensures { IsWithin (is_named part.now) result }
-{
-    match part {
-        IndexPart::Points(
-            PointList {
-                ranks: Ranks::Unread(named),
-                ..
-            },
-        ) => {
-            places(alloc, named.array, named.n)?;
-            Ok(())
-        }
-        _ => Ok(()),
-    }
-}
-
 /// Refuses a number that is out of range. The arrays are read one after the other.
 pub(crate) fn check_numbers(alloc: Global, parts: &[IndexPart<'_>]) -> Result<(), Refusal>
     ensures { IsWithin (all_named parts.now) result }
 {
     for part in parts {
-        check_part(alloc, part)?;
+        if let IndexPart::Points(points) = part
+            && let Ranks::Unread(named) = &points.ranks
+        {
+            places(alloc, named.array, named.n)?;
+        }
     }
     Ok(())
 }

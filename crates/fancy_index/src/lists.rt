@@ -23,10 +23,7 @@ fn axes_of(item: IndexItem<Items<'_>>) -> usize
 {
     match item {
         IndexItem::Ellipsis | IndexItem::NewAxis => 0,
-        IndexItem::Array(array) => match kind(array) {
-            Kind::Mask => array.layout.shape.rank(),
-            _ => 1,
-        },
+        IndexItem::Array(array) if kind(array) == Kind::Mask => array.layout.shape.rank(),
         _ => 1,
     }
 }

@@ -264,43 +264,6 @@ pub(crate) struct RunAt<'a> {
     later: Runs<'a>,
 }
 
-/// The first run of a layout with items.
-fn first_run(layout: &Layout) -> RunAt<'_>
-    requires { 0 < count layout.now.shape }
-    ensures at { IsAtRun result }
-    ensures layout { result.layout.now ≡ layout.now }
-{
-    let mut later = Runs::new(layout);
-    match later.next() {
-        Some(run) => RunAt {
-            layout,
-            run,
-            first: 0,
-            later,
-        },
-        None => unreachable!(),
-    }
-}
-
-/// Goes on to the run that has the item with this rank.
-fn go_to(at: &mut RunAt<'_>, rank: usize)
-    requires at { IsAtRun at.old }
-    requires rank { rank < count at.old.layout.now.shape }
-    requires behind { at.old.first ≤ rank }
-    ensures at { IsAtRun at.new }
-    ensures layout { at.new.layout.now ≡ at.old.layout.now }
-    ensures from { at.new.first ≤ rank }
-    ensures below { rank < at.new.first + at.new.run.count }
-{
-    while rank - at.first >= at.run.count {
-        at.first += at.run.count;
-        match at.later.next() {
-            Some(run) => at.run = run,
-            None => unreachable!(),
-        }
-    }
-}
-
 /// The offset of the item with this rank. It continues from the last call, so rising ranks take a
 /// single walk.
 fn offset_at(at: &mut RunAt<'_>, rank: usize) -> usize
@@ -315,7 +278,13 @@ fn offset_at(at: &mut RunAt<'_>, rank: usize) -> usize
     if rank < at.first {
         return at.layout.at_rank(rank);
     }
-    go_to(at, rank);
+    while rank - at.first >= at.run.count {
+        at.first += at.run.count;
+        match at.later.next() {
+            Some(run) => at.run = run,
+            None => unreachable!(),
+        }
+    }
     at.run.offset_after(rank - at.first)
 }
 
@@ -350,7 +319,16 @@ fn lead_by_runs(layout: &Layout, ranks: &mut [u32])
     requires ranks { All (λ rank. rank < count layout.now.shape) ranks.old }
     ensures { ranks.new ≡ led (offsets layout.now) ranks.old }
 {
-    let mut at = first_run(layout);
+    let mut later = Runs::new(layout);
+    let Some(run) = later.next() else {
+        unreachable!()
+    };
+    let mut at = RunAt {
+        layout,
+        run,
+        first: 0,
+        later,
+    };
     for rank in ranks.iter_mut() {
         *rank = offset_at(&mut at, *rank as usize) as u32;
     }

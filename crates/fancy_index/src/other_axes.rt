@@ -1,6 +1,6 @@
 //! The axes other than those of the points, with all points at 0.
 ghost use Rattle.std.specs.Prelude.{IfErr, IfOk, OnOk, drop, length, map, take, ◌++◌, ◌<◌, ◌≡◌, ◌≤◌};
-ghost use Rattle.fancy_index.specs.Clauses.{other_axes, ArePicks, OutOfMemory, count, max_axes, IsRest, rest_of, rest_picks, shown_part, AtAxis};
+ghost use Rattle.fancy_index.specs.Clauses.{other_axes, ArePicks, OutOfMemory, count, max_axes, IsRest, rest_picks, shown_part, AtAxis};
 
 use crate::index_parts::IndexPart;
 use elem_descr::Refusal;
@@ -18,22 +18,16 @@ fn push_zeros(picks: &mut SmallVec<AxisPick, 4>, axes: &[usize]) -> Result<(), A
     Ok(())
 }
 
-fn push_rest(picks: &mut SmallVec<AxisPick, 4>, part: &IndexPart<'_>) -> Result<(), AllocError>
-    ensures { OnOk result (picks.new.items ≡ picks.old.items ++ rest_of part.now) }
-{
-    match part {
-        IndexPart::Axis(pick) => Ok(picks.push(*pick)?),
-        IndexPart::Points(points) => push_zeros(picks, points.axes.as_slice()),
-        IndexPart::Between => Ok(()),
-    }
-}
-
 fn rest_picks(alloc: Global, parts: &[IndexPart<'_>]) -> Result<SmallVec<AxisPick, 4>, AllocError>
     ensures { IfOk result (λ v. v.items ≡ rest_picks parts.now) }
 {
     let mut picks = SmallVec::new(alloc);
     for part in parts {
-        push_rest(&mut picks, part)?;
+        match part {
+            IndexPart::Axis(pick) => picks.push(*pick)?,
+            IndexPart::Points(points) => push_zeros(&mut picks, points.axes.as_slice())?,
+            IndexPart::Between => {}
+        }
     }
     Ok(picks)
 }

@@ -206,14 +206,7 @@ impl Plan {
     /// Copies the items, of `width` bytes, of a layout in another block to the offsets, strictly in
     /// order of rank. The layout has as many items. If memory allows, they are made adjacent first:
     /// finding the place of each item by its rank is slow.
-    pub fn assign(
-        &self,
-        alloc: Global,
-        block: &mut RawBlock,
-        other: &RawBlock,
-        from: &Layout,
-        width: usize,
-    )
+    pub fn assign(&self, block: &mut RawBlock, other: &RawBlock, from: &Layout, width: usize)
         requires inside { All (λ offset. offset + width ≤ length block.old) self.now.offsets }
         requires from { All (λ offset. offset + width ≤ length other.now) (offsets from.now) }
         requires count { length (offsets from.now) ≡ length self.now.offsets }
@@ -225,7 +218,7 @@ impl Plan {
             self.scatter(block, other, width);
             return;
         }
-        if let Ok(items) = gather(alloc, other, from, width) {
+        if let Ok(items) = gather(block.allocator(), other, from, width) {
             self.scatter(block, &items, width);
             return;
         }

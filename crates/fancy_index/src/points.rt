@@ -1,18 +1,19 @@
 //! Points on some axes: the points of an integer, of an array of integers and of a mask; and their
 //! common lengths.
 ghost use Rattle.std.specs.Prelude.{All, IfErr, IfOk, [], length, map, true, ◌∷◌, ◌≡◌, ◌≢◌, ◌≤◌};
-ghost use Rattle.fancy_index.specs.Clauses.{covers, is_within, item_axes, as_index_shapes, points_shape, parts_of, shapes_of_part, index_array_of, Gives, common_with, is_place, max_items, Integers, Mask, NoIndex, IsOutside, IsWithin, array_item, kind_in, numbers_in, shown_part, HavePlaces, IsPart, are_named, place_of, rank_on, ranks_of, true_ranks, list_all};
+ghost use Rattle.fancy_index.specs.Clauses.{covers, is_within, item_axes, points_shape, parts_of, index_array_of, Gives, is_place, max_items, Integers, Mask, NoIndex, IsOutside, IsWithin, array_item, kind_in, numbers_in, shown_part, HavePlaces, IsPart, are_named, place_of, rank_on, ranks_of, true_ranks, list_all};
 
 use crate::index_array::{Named, kind};
 use crate::index_parts::{IndexPart, Kind};
 use crate::masks::true_ranks;
-use crate::positions::{named_place, places};
+use crate::positions::places;
 use arrays::Items;
 use broadcasting::common_of_two;
 use elem_descr::Refusal;
 use smallvec::SmallVec;
 use std::alloc::{AllocError, Global};
 use std::mem;
+use view_ops::{from_front, is_place};
 
 /// The ranks of points: either stored, or the indexes in an array, which is read when they are
 /// needed.
@@ -57,12 +58,12 @@ pub(crate) fn integer_point(
     ensures named { IfOk result (λ p. are_named p.ranks ≡ true) }
     ensures ranks { IfOk result (λ p. ranks_of p.ranks ≡ place_of n at ∷ []) }
 {
-    let Some(place) = named_place(n, at) else {
+    if !is_place(n, at) {
         return Err(Refusal::IndexOutOfRange);
-    };
+    }
     let axes = SmallVec::from_slice(alloc, &[n])?;
     let mut ranks = Vec::new(alloc);
-    ranks.push(place)?;
+    ranks.push(from_front(n, at) as u32)?;
     Ok(PointList {
         lengths: SmallVec::new(alloc),
         axes,
@@ -135,27 +136,6 @@ pub(crate) fn array_points<'a>(
     }
 }
 
-/// The common lengths of these lengths and those of a part's points.
-fn common_with_part(
-    alloc: Global,
-    lengths: SmallVec<usize, 4>,
-    part: &IndexPart<'_>,
-) -> Result<SmallVec<usize, 4>, Refusal>
-    ensures { let shapes = shapes_of_part (shown_part part.now) in
-        Gives (λ v. v.items) result (as_index_shapes (common_with lengths.items shapes)) }
-{
-    match part {
-        IndexPart::Points(points) => {
-            match common_of_two(alloc, lengths.as_slice(), points.lengths.as_slice()) {
-                Ok(common) => Ok(common),
-                Err(Refusal::OutOfMemory) => Err(Refusal::OutOfMemory),
-                Err(_) => Err(Refusal::IndexShapes),
-            }
-        }
-        _ => Ok(lengths),
-    }
-}
-
 /// The common lengths of all points. Lengths that do not broadcast are refused as `IndexShapes`.
 pub(crate) fn points_shape(
     alloc: Global,
@@ -165,7 +145,13 @@ pub(crate) fn points_shape(
 {
     let mut lengths = SmallVec::new(alloc);
     for part in parts {
-        lengths = common_with_part(alloc, lengths, part)?;
+        if let IndexPart::Points(points) = part {
+            lengths = match common_of_two(alloc, lengths.as_slice(), points.lengths.as_slice()) {
+                Ok(common) => common,
+                Err(Refusal::OutOfMemory) => return Err(Refusal::OutOfMemory),
+                Err(_) => return Err(Refusal::IndexShapes),
+            };
+        }
     }
     Ok(lengths)
 }

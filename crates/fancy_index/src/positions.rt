@@ -3,7 +3,7 @@ ghost use Rattle.std.specs.Prelude.{◌≡◌, ◌≤◌, ◌<◌, ℤ, List, le
 ghost use Rattle.fancy_index.specs.Words.{Gives, count, max_items};
 ghost use Rattle.fancy_index.specs.declared.index_parts.Kind.TheVariants.{Integers};
 ghost use Rattle.fancy_index.specs.inside.Items.{kind_in, numbers_in};
-ghost use Rattle.fancy_index.specs.inside.PointLists.{named_place, named_places};
+ghost use Rattle.fancy_index.specs.inside.PointLists.{named_places};
 ghost use Rattle.fancy_index.specs.inside.Words.{word, words_along, AreWords, IsNative, LiesIn, IsPlaceOf, ArePlaces};
 
 use crate::singles::array_at;
@@ -13,7 +13,6 @@ use elem_descr::{Descr, Order, Refusal, Scalar};
 use raw_block::{RawBlock, RunI32, RunI64};
 use shape_strides::{Run, Runs};
 use std::alloc::Global;
-use view_ops::{from_front, is_place};
 
 /// The form in which an integer is stored.
 #[derive(Clone, Copy)]
@@ -47,17 +46,6 @@ fn form_of(array: Items<'_>) -> Form
         },
         _ => unreachable!(),
     }
-}
-
-/// The index that a number stands for on an axis of `n` items, unless it is out of range.
-pub(crate) fn named_place(n: usize, at: i128) -> Option<u32>
-    requires { n ≤ max_items }
-    ensures { result ≡ named_place n at }
-{
-    if !is_place(n, at) {
-        return None;
-    }
-    Some(from_front(n, at) as u32)
 }
 
 /// Whether a signed number is in range for an axis of `n` items, and if so, the index that it

@@ -19,44 +19,21 @@ fn push_picked(lengths: &mut SmallVec<usize, 4>, pick: AxisPick) -> Result<(), A
     }
 }
 
-fn push_axis(lengths: &mut SmallVec<usize, 4>, part: &IndexPart<'_>) -> Result<(), AllocError>
-    ensures { let more = axes_of_part (shown_part part.now) in
-        OnOk result (lengths.new.items ≡ lengths.old.items ++ more) }
-{
-    match part {
-        IndexPart::Axis(pick) => push_picked(lengths, *pick),
-        _ => Ok(()),
-    }
-}
-
 /// The lengths of all axes except those of the points.
 fn other_axes(alloc: Global, parts: &[IndexPart<'_>]) -> Result<SmallVec<usize, 4>, AllocError>
     ensures { IfOk result (λ v. v.items ≡ other_axes (map shown_part parts.now)) }
 {
     let mut lengths = SmallVec::new(alloc);
     for part in parts {
-        push_axis(&mut lengths, part)?;
+        if let IndexPart::Axis(pick) = part {
+            push_picked(&mut lengths, *pick)?;
+        }
     }
     Ok(lengths)
 }
 
-/// The lengths of all axes, with those of the points at their place among the others.
-fn all_axes(
-    alloc: Global,
-    parts: &[IndexPart<'_>],
-    points: &[usize],
-) -> Result<SmallVec<usize, 4>, AllocError>
-    ensures { IfOk result (λ v. v.items ≡ all_axes points.now (map shown_part parts.now)) }
-{
-    let others = other_axes(alloc, parts)?;
-    let place = points_place(parts);
-    let mut lengths = SmallVec::from_slice(alloc, &others.as_slice()[..place])?;
-    lengths.extend_from_slice(points)?;
-    lengths.extend_from_slice(&others.as_slice()[place..])?;
-    Ok(lengths)
-}
-
-/// The shape of the result, or its refusal.
+/// The shape of the result, with the axes of the points at their place among the others, or its
+/// refusal.
 pub(crate) fn shape_of_all(
     alloc: Global,
     parts: &[IndexPart<'_>],
@@ -64,7 +41,11 @@ pub(crate) fn shape_of_all(
 ) -> Result<Shape, Refusal>
     ensures { Gives (λ s. s) result (shape_of (all_axes points.now (map shown_part parts.now))) }
 {
-    let lengths = all_axes(alloc, parts, points)?;
+    let others = other_axes(alloc, parts)?;
+    let place = points_place(parts);
+    let mut lengths: SmallVec<usize, 4> = SmallVec::from_slice(alloc, &others.as_slice()[..place])?;
+    lengths.extend_from_slice(points)?;
+    lengths.extend_from_slice(&others.as_slice()[place..])?;
     Shape::try_new(alloc, lengths.as_slice())
 }
 

@@ -1,7 +1,7 @@
 //! The offset of the first item with each point: how far each array moves it from the item with all
 //! points at 0.
 ghost use Rattle.std.specs.Prelude.{All, IfOk, OnOk, [], drop, get_or, length, map, take, true, ℕ, ◌++◌, ◌+◌, ◌<◌, ◌∷◌, ◌≡◌, ◌≤◌};
-ghost use Rattle.fancy_index.specs.Clauses.{IsShape, LieWithin, can_stretch, count, first_of, indexes, max_bytes, max_items, offsets, run_offsets, IsWithin, IsMoved, AreParts, IsReady, LeadInto, all_named, first_offset, is_named, AllCanGrow, AreSoMany, BeginAt, BeginsAt, CanAdd, CanGrow, HaveAdded, HaveAllGrown, HaveGrown, HaveGrownFrom, number_along, number_through, point_number, start_of, starts, stretched_ranks, strides_along};
+ghost use Rattle.fancy_index.specs.Clauses.{IsShape, LieWithin, can_stretch, count, indexes, max_bytes, max_items, offsets, run_offsets, IsWithin, IsMoved, AreParts, IsReady, LeadInto, all_named, first_offset, is_named, AllCanGrow, AreSoMany, BeginAt, BeginsAt, CanAdd, CanGrow, HaveAdded, HaveAllGrown, HaveGrown, HaveGrownFrom, number_along, number_through, point_number, start_of, starts, stretched_ranks, strides_along};
 
 use crate::index_parts::IndexPart;
 use crate::masks::lead_through;
@@ -29,33 +29,18 @@ fn push_origin(numbers: &mut SmallVec<usize, 4>, axes: &[usize]) -> Result<(), A
     Ok(())
 }
 
-fn push_first(numbers: &mut SmallVec<usize, 4>, pick: AxisPick) -> Result<(), AllocError>
-    ensures { OnOk result (numbers.new.items ≡ numbers.old.items ++ first_of pick) }
-{
-    match pick {
-        AxisPick::At(number) => Ok(numbers.push(number)?),
-        AxisPick::Along(run) => Ok(numbers.push(run.first)?),
-        AxisPick::New => Ok(()),
-    }
-}
-
-fn push_start(numbers: &mut SmallVec<usize, 4>, part: &IndexPart<'_>) -> Result<(), AllocError>
-    ensures { OnOk result (numbers.new.items ≡ numbers.old.items ++ start_of part.now) }
-{
-    match part {
-        IndexPart::Axis(pick) => push_first(numbers, *pick),
-        IndexPart::Points(points) => push_origin(numbers, points.axes.as_slice()),
-        IndexPart::Between => Ok(()),
-    }
-}
-
 /// The index of the first item with all points at 0.
 fn starts(alloc: Global, parts: &[IndexPart<'_>]) -> Result<SmallVec<usize, 4>, AllocError>
     ensures { IfOk result (λ v. v.items ≡ starts parts.now) }
 {
     let mut numbers = SmallVec::new(alloc);
     for part in parts {
-        push_start(&mut numbers, part)?;
+        match part {
+            IndexPart::Axis(AxisPick::At(number)) => numbers.push(*number)?,
+            IndexPart::Axis(AxisPick::Along(run)) => numbers.push(run.first)?,
+            IndexPart::Points(points) => push_origin(&mut numbers, points.axes.as_slice())?,
+            IndexPart::Axis(AxisPick::New) | IndexPart::Between => {}
+        }
     }
     Ok(numbers)
 }
@@ -235,15 +220,6 @@ fn grow_equally(shifts: &mut [u32], at: usize, start: u32, offset: u32, count: u
     }
 }
 
-/// The same run, with a step that the compiler knows.
-#[inline(always)]
-fn with_step(run: Run, step: isize) -> Run
-    requires { run.step ≡ step }
-    ensures { result ≡ run }
-{
-    Run { step, ..run }
-}
-
 /// Adds it to as many shifts as a run of places has, with a loop of its own for adjacent places and
 /// for a single place.
 fn grow_run(shifts: &mut [u32], at: usize, start: u32, offsets: &[u32], places: Run)
@@ -261,7 +237,7 @@ fn grow_run(shifts: &mut [u32], at: usize, start: u32, offsets: &[u32], places: 
         0 if places.count > 0 => {
             grow_equally(shifts, at, start, offsets[places.offset], places.count);
         }
-        1 => grow_each(shifts, at, start, offsets, with_step(places, 1)),
+        1 => grow_each(shifts, at, start, offsets, Run { step: 1, ..places }),
         _ => grow_each(shifts, at, start, offsets, places),
     }
 }

@@ -1,5 +1,5 @@
 -- Points as the code stores them: by their ranks along their axes.
-use Rattle.std.specs.Prelude.{◌≡◌, ◌⊎◌, ◌<◌, ℕ, ◌+◌, ◌%◌, Bool, true, if◌then◌else◌, ℤ, pos, Option, Some, None, List, [], ◌∷◌, map, length, get_or, All, Result, Ok, Err}
+use Rattle.std.specs.Prelude.{◌≡◌, ◌⊎◌, ◌<◌, ℕ, ◌+◌, ◌%◌, Bool, true, if◌then◌else◌, ℤ, pos, List, [], ◌∷◌, map, length, get_or, All, Result, Ok, Err}
 use Rattle.fancy_index.specs.Words.{list_all, int_eq, Refusal, IndexOutOfRange, count, indexes, natural, from_front, is_place}
 use Rattle.fancy_index.specs.declared.points.PointList.{PointList}
 use Rattle.fancy_index.specs.declared.points.Ranks.{Ranks}
@@ -10,10 +10,6 @@ use Rattle.fancy_index.specs.Parts.{Part, Points}
 -- the place along an axis of n that a number names
 abbrev pub place_of : ℕ → ℤ → ℕ
 place_of n at = natural (from_front n at)
-
--- that place, or none if the number is out of range
-abbrev pub named_place : ℕ → ℤ → Option ℕ
-named_place n at = if is_place n at then Some (place_of n at) else None
 
 -- the places that numbers name, or the refusal if one of them is out of range
 abbrev pub named_places : ℕ → List ℤ → Result (List ℕ) Refusal

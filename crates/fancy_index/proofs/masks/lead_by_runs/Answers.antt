@@ -1,7 +1,27 @@
-use Rattle.std.proofs.Common.{ℕ, ◌<◌, get_or, slice_set, ap, ◌∙◌, arith}
-use Rattle.fancy_index.proofs.Words.{get_or_default, map_over_more, Layout, count, offsets}
+use Rattle.std.proofs.Common.{rules, ◌≡◌, ℕ, ◌<◌, [], length, get_or, slice_set, All, refl, sym, ap, subst, ◌∙◌, arith}
+use Rattle.fancy_index.proofs.Words.{flat_map, get_or_default, map_over_more, Layout, count, offsets, length-offsets, max_bytes, run_offsets, BeginsWithin}
 use Rattle.fancy_index.proofs.RankLaws.{holds_yet, all_changed}
 use Rattle.fancy_index.proofs.masks.lead_by_runs.Goals as goal
+
+pub unreachable-requires : goal.unreachable-requires
+unreachable-requires c =
+    let ens = c.new-later.ensures in
+    let none : [] ≡ offsets c.args.layout.now = ap (flat_map run_offsets) (sym c.in_default.ensures.steps.0 ∙ ens.runs) ∙ ens.offsets in
+    omega (arith, ap length none, length-offsets c.args.layout.now, c.requires.some)
+
+pub loop-rank-init : goal.loop-rank-init
+loop-rank-init c =
+    let ens = c.new-later.ensures in
+    let walked = sym c.in-Some.ensures.steps ∙ ens.runs in
+    record {
+      at = record {
+        low = omega arith;
+        left = ap (flat_map run_offsets) walked ∙ ens.offsets;
+        lie = subst (All BeginsWithin) (sym walked) (ens.lie max_bytes 1 (search rules));
+      };
+      layout = refl;
+      led = refl;
+    }
 
 pub offset_at-requires-clause-rank : goal.offset_at-requires-clause-rank
 offset_at-requires-clause-rank c =

@@ -1,6 +1,6 @@
 use Rattle.std.proofs.Common.{◌≡◌, ◌≤◌, length}
 use Rattle.fancy_index.proofs.Words.{IsAtRun}
-use Rattle.fancy_index.proofs.masks.go_to.Given as goal
+use Rattle.fancy_index.proofs.masks.offset_at.Given as goal
 
 abbrev pub invariant-loop-at : goal.invariant-loop-at
 invariant-loop-at l = record {
