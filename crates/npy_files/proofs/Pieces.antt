@@ -1,6 +1,6 @@
 -- Bytes that are read piece by piece.
 use Rattle.std.proofs.Common.{◌≡◌, ◌≤◌, ◌+◌, ◌-◌, ◌++◌, ℕ, List, length, take, drop, sym, ap, ◌∙◌, arith, append_assoc, length-append, length-drop, take-append-drop}
-use Rattle.npy_files.proofs.Words.{take_at, length-take-le, append-nil, nil_from_length, put_mid}
+use Rattle.npy_files.proofs.Words.{take_at, length-take-le, put_mid}
 
 -- a piece replaces the end of some bytes, and the first of its bytes were read
 module _ (bytes piece rest next : List ℕ) (at count : ℕ) (within : at ≤ length bytes) (long : length piece ≡ length bytes - at) (few : count ≤ length piece) (taken : rest ≡ take count piece ++ next) where
@@ -21,13 +21,6 @@ module _ (bytes piece rest next : List ℕ) (at count : ℕ) (within : at ≤ le
       let size : length front ≡ at + count = omega (arith, length-append (take at bytes) (take count piece), length-take-le at bytes within, length-take-le count piece few) in
       same ∙ ap (λ r. take at bytes ++ r) taken ∙ sym (append_assoc (take at bytes) (take count piece) next)
       ∙ ap (λ l. l ++ next) (sym (ap (take (at + count)) cut ∙ take_at front (drop count piece ++ tail) (at + count) size))
-
--- once the expected number of bytes is there, none is left
-pub none_left : (filled new rest next : List ℕ) (len : ℕ) → filled ++ rest ≡ new ++ next → length filled + length rest ≡ len → length new ≡ len → length next ≡ 0
-none_left filled new rest next len read told whole = omega (arith, ap length read, length-append filled rest, length-append new next, told, whole)
-
-pub all_read : (begin filled new rest next : List ℕ) → filled ≡ begin → filled ++ rest ≡ new ++ next → length next ≡ 0 → new ≡ begin ++ rest
-all_read begin filled new rest next is read none = sym (ap (λ l. new ++ l) (nil_from_length next none) ∙ append-nil new) ∙ sym read ∙ ap (λ l. l ++ rest) is
 
 -- bytes that are cut in two
 pub cut_read : (front rest whole now block : List ℕ) (cut : ℕ) → whole ≡ front ++ rest → now ≡ take cut front → block ≡ drop cut front ++ rest → now ++ block ≡ whole

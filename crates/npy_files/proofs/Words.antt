@@ -10,7 +10,7 @@ pub use Rattle.npy_files.specs.inside.Shelves.{IsFirstOf, IsNamed, files_of, is_
 pub use Rattle.std.proofs.Math.Nat.{eq-or-lt_of_le}
 pub use Rattle.std.proofs.lemmas.Bool.{false_from_ne_true, ltb-false, true≢false}
 pub use Rattle.std.proofs.lemmas.Grind.{common_steps}
-pub use Rattle.std.proofs.lemmas.List.{append-nil, length-take-le, map-append, nil_from_length, take_all, take_at}
+pub use Rattle.std.proofs.lemmas.List.{length-replicate, length-take-le, map-append, take_all, take_at}
 pub use Rattle.std.proofs.lemmas.List.Quantifiers.{position-Some}
 pub use Rattle.std.proofs.lemmas.Option.{slice_get-get_or, slice_get_within}
 pub use Rattle.std.proofs.lemmas.Slice.Eq.{bytes_eq-Decides}

@@ -56,33 +56,6 @@ fn stage<D: Disk>(
     }
 }
 
-/// Renames a file whose bytes are on the disk. If this fails, the file is removed, unless the disk
-/// cannot do that either.
-fn take_place<D: Disk>(disk: &mut D, from: &[u8], to: &[u8]) -> Result<(), DiskFault>
-    requires apart { to.now ≢ from.now }
-    requires synced { IsTrue D.honest → D.Synced disk.old from.now }
-    ensures renamed { IsTrue D.honest →
-        OnOk result (get (D.files disk.new) to.now ≡ get (D.files disk.old) from.now) }
-    ensures synced { IsTrue D.honest → OnOk result (D.Synced disk.new to.now) }
-    ensures others { IsTrue D.honest →
-        Replaces from.now to.now (get (D.files disk.old) from.now)
-        (D.files disk.old) (D.files disk.new) }
-    ensures crash { IsTrue D.honest →
-        Leaves (Replaces from.now to.now (get (D.files disk.old) from.now))
-        (D.history disk.old) (D.history disk.new) }
-    ensures memory { IsTrue D.honest →
-        IsErrOf result Memory → SameBut from.now (D.files disk.old) (D.files disk.new) }
-    ensures cause { HasCause Failed (D.failures disk.old) (D.failures disk.new) result }
-{
-    match disk.rename(from, to) {
-        Ok(()) => Ok(()),
-        Err(fault) => {
-            let _ = disk.remove(from);
-            Err(fault)
-        }
-    }
-}
-
 /// Replaces the file with this name by a file of two parts. A crash leaves one or the other.
 pub(crate) fn put<D: Disk>(
     disk: &mut D,
@@ -107,6 +80,9 @@ pub(crate) fn put<D: Disk>(
     ensures cause { HasCause Failed (D.failures disk.old) (D.failures disk.new) result }
 {
     let _file = stage(disk, hidden, name, front, items)?;
-    take_place(disk, hidden, name)?;
+    if let Err(fault) = disk.rename(hidden, name) {
+        let _ = disk.remove(hidden);
+        return Err(fault);
+    }
     disk.sync_names()
 }

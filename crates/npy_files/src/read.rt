@@ -42,78 +42,9 @@ fn fill<D: Disk>(
     Ok(())
 }
 
-/// Fills the next `count` bytes of a block.
-fn fill_piece<D: Disk>(
-    disk: &mut D,
-    file: &mut D::File,
-    block: &mut BlockBuilder,
-    count: usize,
-) -> Result<(), StoreFault>
-    requires current { IsTrue D.honest → D.IsCurrent disk.old file.old }
-    requires room { count ≤ block.old.1 }
-    requires told { IsTrue D.honest → count ≤ length (D.rest_of file.old) }
-    ensures read { IsTrue D.honest →
-        OnOk result (block.old.0 ++ D.rest_of file.old ≡ block.new.0 ++ D.rest_of file.new) }
-    ensures filled { length block.new.0 ≡ length block.old.0 + count }
-    ensures left { count + block.new.1 ≡ block.old.1 }
-    ensures long { ¬ IsErrOf result TooLong }
-    ensures files { IsTrue D.honest → D.files disk.new ≡ D.files disk.old }
-    ensures crash { IsTrue D.honest → Leaves Same (D.history disk.old) (D.history disk.new) }
-    ensures current { IsTrue D.honest → D.IsCurrent disk.new file.new }
-    ensures cause { IsTrue D.honest →
-        HasCause Device (D.failures disk.old) (D.failures disk.new) result }
-{
-    let start = block.filled();
-    block.push_zeros(count);
-    fill(disk, file, block.bytes_mut(), start)
-}
-
-/// Fills the rest of a block of `len` bytes, piece by piece, so that the zeros of a piece are
-/// overwritten while they are near.
-fn fill_rest<D: Disk>(
-    disk: &mut D,
-    file: &mut D::File,
-    block: &mut BlockBuilder,
-    len: usize,
-) -> Result<(), StoreFault>
-    requires current { IsTrue D.honest → D.IsCurrent disk.old file.old }
-    requires len { length block.old.0 + block.old.1 ≡ len }
-    requires told { IsTrue D.honest → length block.old.0 + length (D.rest_of file.old) ≡ len }
-    ensures read { IsTrue D.honest →
-        OnOk result (block.old.0 ++ D.rest_of file.old ≡ block.new.0 ++ D.rest_of file.new) }
-    ensures full { OnOk result (block.new.1 ≡ 0) }
-    ensures len { OnOk result (length block.new.0 ≡ len) }
-    ensures long { ¬ IsErrOf result TooLong }
-    ensures files { IsTrue D.honest → D.files disk.new ≡ D.files disk.old }
-    ensures crash { IsTrue D.honest → Leaves Same (D.history disk.old) (D.history disk.new) }
-    ensures current { IsTrue D.honest → D.IsCurrent disk.new file.new }
-    ensures cause { IsTrue D.honest →
-        HasCause Device (D.failures disk.old) (D.failures disk.new) result }
-{
-    while block.filled() < len {
-        let count = PIECE.min(len - block.filled());
-        fill_piece(disk, file, block, count)?;
-    }
-    Ok(())
-}
-
-/// Expects the end of the file. If the file goes on, it has become longer, and that is a fault.
-fn expect_end<D: Disk>(disk: &mut D, file: &mut D::File) -> Result<(), StoreFault>
-    requires current { IsTrue D.honest → D.IsCurrent disk.old file.old }
-    requires told { IsTrue D.honest → length (D.rest_of file.old) ≡ 0 }
-    ensures long { ¬ IsErrOf result TooLong }
-    ensures files { IsTrue D.honest → D.files disk.new ≡ D.files disk.old }
-    ensures crash { IsTrue D.honest → Leaves Same (D.history disk.old) (D.history disk.new) }
-    ensures cause { IsTrue D.honest →
-        HasCause Device (D.failures disk.old) (D.failures disk.new) result }
-{
-    if disk.read(file, &mut [0])? != 0 {
-        return Err(StoreFault::Device);
-    }
-    Ok(())
-}
-
-/// A block of `len` bytes that begins with these, and goes on with the rest of a file.
+/// A block of `len` bytes that begins with these, and goes on with the rest of a file. It is filled
+/// piece by piece, so that the zeros of a piece are overwritten while they are near. If the file
+/// goes on after that, it has become longer, and that is a fault.
 fn read_block<D: Disk>(
     disk: &mut D,
     alloc: Global,
@@ -134,8 +65,14 @@ fn read_block<D: Disk>(
 {
     let mut block = BlockBuilder::try_new(alloc, len)?;
     block.push_bytes(begin);
-    fill_rest(disk, file, &mut block, len)?;
-    expect_end(disk, file)?;
+    while block.filled() < len {
+        let start = block.filled();
+        block.push_zeros(PIECE.min(len - start));
+        fill(disk, file, block.bytes_mut(), start)?;
+    }
+    if disk.read(file, &mut [0])? != 0 {
+        return Err(StoreFault::Device);
+    }
     Ok(block.finish())
 }
 

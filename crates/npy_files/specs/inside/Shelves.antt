@@ -1,9 +1,9 @@
 -- The files of the stores in memory.
-use Rattle.std.specs.Prelude.{◌≡◌, ◌⊎◌, ◌<◌, ◌≤◌, ℕ, zero, suc, Bool, true, false, List, map, slice_get, Option, Some, None, Result, Ok, Err}
-use Rattle.npy_files.specs.Words.{from_entries, bytes_eq, Files, last_count}
+use Rattle.std.specs.Prelude.{◌≡◌, ◌<◌, ℕ, zero, suc, Bool, true, false, List, map, slice_get, Option, Some, None, Result, Ok, Err}
+use Rattle.npy_files.specs.Words.{from_entries, bytes_eq, Files}
 use Rattle.npy_files.specs.declared.mem_store.StoredFile.{StoredFile}
 use Rattle.npy_files.specs.declared.store.StoreFault.{StoreFault}
-use Rattle.npy_files.specs.declared.store.StoreFault.TheVariants.{Device, TooLong, Memory}
+use Rattle.npy_files.specs.declared.store.StoreFault.TheVariants.{Device}
 use Rattle.npy_files.specs.Stores.{StoreState, comes_before}
 
 abbrev pub named_bytes : StoredFile → List ℕ × List ℕ

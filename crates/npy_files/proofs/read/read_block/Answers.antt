@@ -1,32 +1,55 @@
-use Rattle.std.proofs.Common.{◌≡◌, ◌+◌, ◌++◌, ℕ, List, length, ap, ◌∙◌, subst, sym}
-use Rattle.npy_files.proofs.Words.{both_same, unmoved}
-use Rattle.npy_files.proofs.Pieces.{none_left, all_read}
+use Rattle.std.proofs.Common.{◌≡◌, ◌+◌, ◌++◌, ℕ, List, length, take, IsTrue, refl, ap, ◌∙◌, sym, arith, length-append}
+use Rattle.npy_files.proofs.Words.{both_same, length-replicate, take_at, unmoved}
 use Rattle.npy_files.proofs.read.read_block.Goals as goal
 
 pub returns-in_err-block-clause-crash : goal.returns-in_err-block-clause-crash
 returns-in_err-block-clause-crash g c = λ honest. unmoved _
 
-pub expect_end-requires : goal.expect_end-requires
-expect_end-requires g c = record {
-  current = λ honest. c.fill_rest.ensures.current honest;
-  told = λ honest.
-      let rest = g.D.Disk.rest_of c.args.file.now in
-      let pushed : c.push_bytes.new.self.0 ≡ c.args.begin.now = c.push_bytes.ensures.bytes ∙ ap (λ (b : List ℕ × ℕ). b.0 ++ c.args.begin.now) c.in_ok-block.ensures in
-      let told = subst (λ (l : List ℕ). length l + length rest ≡ c.args.len) (sym pushed) (c.requires.told honest) in
-      none_left c.push_bytes.new.self.0 c.fill_rest.new.block.0 rest (g.D.Disk.rest_of c.fill_rest.new.file) c.args.len (c.in_ok-fill_rest.ensures.read honest) told c.in_ok-fill_rest.ensures.len;
-}
-
-pub returns-in_err-expect_end-clause-crash : goal.returns-in_err-expect_end-clause-crash
-returns-in_err-expect_end-clause-crash g c = λ honest. both_same _ _ _ (c.fill_rest.ensures.crash honest) (c.expect_end.ensures.crash honest)
-
-pub returns-clause-read : goal.returns-clause-read
-returns-clause-read g c = λ honest.
-    let rest = g.D.Disk.rest_of c.args.file.now in
-    let next = g.D.Disk.rest_of c.fill_rest.new.file in
+pub loop-block-init : goal.loop-block-init
+loop-block-init g c =
     let pushed : c.push_bytes.new.self.0 ≡ c.args.begin.now = c.push_bytes.ensures.bytes ∙ ap (λ (b : List ℕ × ℕ). b.0 ++ c.args.begin.now) c.in_ok-block.ensures in
-    let told = subst (λ (l : List ℕ). length l + length rest ≡ c.args.len) (sym pushed) (c.requires.told honest) in
-    let none = none_left c.push_bytes.new.self.0 c.fill_rest.new.block.0 rest next c.args.len (c.in_ok-fill_rest.ensures.read honest) told c.in_ok-fill_rest.ensures.len in
-    c.finish.ensures ∙ all_read c.args.begin.now c.push_bytes.new.self.0 c.fill_rest.new.block.0 rest next pushed (c.in_ok-fill_rest.ensures.read honest) none
+    record {
+      read = λ honest. ap (λ (b : List ℕ). b ++ g.D.Disk.rest_of c.args.file.now) (sym pushed);
+      told = λ honest. let told = c.requires.told honest in omega (arith, ap length pushed, told);
+      files = λ honest. refl;
+      crash = λ honest. unmoved _;
+      current = c.requires.current;
+      room = omega (arith, ap length pushed, c.push_bytes.ensures.left, ap (λ (b : List ℕ × ℕ). b.1) c.in_ok-block.ensures);
+      kept = λ honest. omega arith;
+    }
+
+pub loop-block-preserved : goal.loop-block-preserved
+loop-block-preserved g c =
+    let block = c.loop-block.block.0 in
+    let longer = c.push_zeros.new.self.0 in
+    let after = c.fill.new.bytes in
+    let rest = g.D.Disk.rest_of c.loop-block.file in
+    let next = g.D.Disk.rest_of c.fill.new.file in
+    let size : length after ≡ length longer = omega (arith, c.fill.auto.bytes, ap length c.bytes_mut.ensures.value) in
+    let put = c.bytes_mut.ensures.same_len after size in
+    let grown : length longer ≡ length block + c.min.result = ap length c.push_zeros.ensures.bytes ∙ length-append block _ ∙ ap (λ n. length block + n) (length-replicate c.min.result 0) in
+    let front : take c.filled-start.result c.bytes_mut.result.now ≡ block = ap (take c.filled-start.result) (c.bytes_mut.ensures.value ∙ c.push_zeros.ensures.bytes) ∙ take_at block _ _ (sym c.filled-start.ensures.len) in
+    let step : IsTrue g.D.Disk.honest → block ++ rest ≡ after ++ next = λ honest. ap (λ (l : List ℕ). l ++ rest) (sym front) ∙ c.in_ok-fill.ensures.read honest in
+    record {
+      read = λ honest. c.loop-block.invariant.read honest ∙ step honest ∙ ap (λ (l : List ℕ). l ++ next) (sym put);
+      told = λ honest.
+          let before = c.loop-block.invariant.told honest in
+          omega (arith, ap length (step honest), ap length put, before, length-append block rest, length-append after next);
+      files = λ honest. c.fill.ensures.files honest ∙ c.loop-block.invariant.files honest;
+      crash = λ honest. both_same _ _ _ (c.loop-block.invariant.crash honest) (c.fill.ensures.crash honest);
+      current = λ honest. c.fill.ensures.current honest;
+      room = omega (arith, ap length put, size, grown, c.push_zeros.ensures.left, c.loop-block.invariant.room);
+      kept = λ honest.
+          let before = c.loop-block.invariant.kept honest in
+          let more = (c.fill.ensures.cause honest).kept in
+          omega (arith, before, more);
+    }
+
+pub returns-in_err-fill-clause-crash : goal.returns-in_err-fill-clause-crash
+returns-in_err-fill-clause-crash g c = λ honest. both_same _ _ _ (c.loop-block.invariant.crash honest) (c.fill.ensures.crash honest)
+
+pub returns-in_err-read-clause-crash : goal.returns-in_err-read-clause-crash
+returns-in_err-read-clause-crash g c = λ honest. both_same _ _ _ (c.loop-block.invariant.crash honest) (c.read.ensures.crash honest)
 
 pub returns-clause-crash : goal.returns-clause-crash
-returns-clause-crash g c = λ honest. both_same _ _ _ (c.fill_rest.ensures.crash honest) (c.expect_end.ensures.crash honest)
+returns-clause-crash g c = λ honest. both_same _ _ _ (c.loop-block.invariant.crash honest) (c.read.ensures.crash honest)

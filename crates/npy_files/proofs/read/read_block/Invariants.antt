@@ -1,10 +1,10 @@
 use Rattle.std.proofs.Common.{◌≡◌, ◌++◌, ◌+◌, ◌-◌, ◌≤◌, length, IsTrue}
 use Rattle.npy_files.proofs.Words.{Same, Leaves}
-use Rattle.npy_files.proofs.read.fill_rest.Given as goal
+use Rattle.npy_files.proofs.read.read_block.Given as goal
 
 abbrev pub invariant-loop-block : goal.invariant-loop-block
 invariant-loop-block g l = record {
-  read : IsTrue g.D.Disk.honest → l.fn.block.0 ++ g.D.Disk.rest_of l.fn.file ≡ l.block.0 ++ g.D.Disk.rest_of l.file;
+  read : IsTrue g.D.Disk.honest → l.fn.begin ++ g.D.Disk.rest_of l.fn.file ≡ l.block.0 ++ g.D.Disk.rest_of l.file;
   told : IsTrue g.D.Disk.honest → length l.block.0 + length (g.D.Disk.rest_of l.file) ≡ l.len;
   files : IsTrue g.D.Disk.honest → g.D.Disk.files l.disk ≡ g.D.Disk.files l.fn.disk;
   crash : IsTrue g.D.Disk.honest → Leaves Same (g.D.Disk.history l.fn.disk) (g.D.Disk.history l.disk);
