@@ -1,6 +1,6 @@
 -- Bytes that are read piece by piece.
 use Rattle.std.proofs.Common.{◌≡◌, ◌≤◌, ◌+◌, ◌-◌, ◌++◌, ℕ, List, length, take, drop, sym, ap, ◌∙◌, arith, append_assoc, length-append, length-drop, take-append-drop}
-use Rattle.npy_files.proofs.Words.{take_at, length-take-le, put_mid}
+use Rattle.npy_files.proofs.Words.{take_all, take_at, length-take-le, put_mid}
 
 -- a piece replaces the end of some bytes, and the first of its bytes were read
 module _ (bytes piece rest next : List ℕ) (at count : ℕ) (within : at ≤ length bytes) (long : length piece ≡ length bytes - at) (few : count ≤ length piece) (taken : rest ≡ take count piece ++ next) where
@@ -23,6 +23,7 @@ module _ (bytes piece rest next : List ℕ) (at count : ℕ) (within : at ≤ le
       ∙ ap (λ l. l ++ next) (sym (ap (take (at + count)) cut ∙ take_at front (drop count piece ++ tail) (at + count) size))
 
 -- bytes that are cut in two
-pub cut_read : (front rest whole now block : List ℕ) (cut : ℕ) → whole ≡ front ++ rest → now ≡ take cut front → block ≡ drop cut front ++ rest → now ++ block ≡ whole
-cut_read front rest whole now block cut is here behind =
-    ap (λ l. l ++ block) here ∙ ap (λ l. take cut front ++ l) behind ∙ sym (append_assoc (take cut front) (drop cut front) rest) ∙ ap (λ l. l ++ rest) (take-append-drop cut front) ∙ sym is
+pub cut_read : (front seen rest whole now block : List ℕ) (cut : ℕ) → whole ≡ front ++ rest → seen ≡ front → now ≡ take cut front → block ≡ take (length seen - cut) (drop cut seen) ++ rest → now ++ block ≡ whole
+cut_read front seen rest whole now block cut is same here behind =
+    let all : take (length seen - cut) (drop cut seen) ≡ drop cut front = take_all (length seen - cut) (drop cut seen) (omega (arith, length-drop cut seen)) ∙ ap (drop cut) same in
+    ap (λ l. l ++ block) here ∙ ap (λ l. take cut front ++ l) (behind ∙ ap (λ l. l ++ rest) all) ∙ sym (append_assoc (take cut front) (drop cut front) rest) ∙ ap (λ l. l ++ rest) (take-append-drop cut front) ∙ sym is

@@ -76,57 +76,7 @@ fn read_block<D: Disk>(
     Ok(block.finish())
 }
 
-/// The first bytes of a file of `len` bytes.
-fn read_first<D: Disk>(
-    disk: &mut D,
-    alloc: Global,
-    file: &mut D::File,
-    len: usize,
-) -> Result<Vec<u8>, StoreFault>
-    requires current { IsTrue D.honest → D.IsCurrent disk.old file.old }
-    requires told { IsTrue D.honest → length (D.rest_of file.old) ≡ len }
-    ensures read { IsTrue D.honest →
-        IfOk result (λ first. D.rest_of file.old ≡ first.items ++ D.rest_of file.new) }
-    ensures few { IfOk result (λ first. length first.items ≤ len) }
-    ensures long { ¬ IsErrOf result TooLong }
-    ensures files { IsTrue D.honest → D.files disk.new ≡ D.files disk.old }
-    ensures crash { IsTrue D.honest → Leaves Same (D.history disk.old) (D.history disk.new) }
-    ensures current { IsTrue D.honest → D.IsCurrent disk.new file.new }
-    ensures cause { IsTrue D.honest →
-        HasCause Device (D.failures disk.old) (D.failures disk.new) result }
-{
-    let mut first = Vec::new(alloc);
-    first.resize(len.min(PIECE), 0)?;
-    fill(disk, file, first.as_mut_slice(), 0)?;
-    Ok(first)
-}
-
-/// The file of `len` bytes, cut in two.
-fn read_cut<D: Disk, C: Cutter>(
-    disk: &mut D,
-    alloc: Global,
-    cutter: &C,
-    file: &mut D::File,
-    len: usize,
-) -> Result<FileParts, StoreFault>
-    requires current { IsTrue D.honest → D.IsCurrent disk.old file.old }
-    requires told { IsTrue D.honest → length (D.rest_of file.old) ≡ len }
-    ensures read { IsTrue D.honest →
-        IfOk result (λ parts. parts.front.items ++ parts.block ≡ D.rest_of file.old) }
-    ensures long { ¬ IsErrOf result TooLong }
-    ensures files { IsTrue D.honest → D.files disk.new ≡ D.files disk.old }
-    ensures crash { IsTrue D.honest → Leaves Same (D.history disk.old) (D.history disk.new) }
-    ensures cause { IsTrue D.honest →
-        HasCause Device (D.failures disk.old) (D.failures disk.new) result }
-{
-    let mut front = read_first(disk, alloc, file, len)?;
-    let cut = cutter.front_len(front.as_slice()).min(front.len());
-    let block = read_block(disk, alloc, file, &front[cut..], len - cut)?;
-    front.truncate(cut);
-    Ok(FileParts { front, block })
-}
-
-/// The file with this name, which is there.
+/// The file with this name, which is there, cut in two.
 fn read_found<D: Disk, C: Cutter>(
     disk: &mut D,
     alloc: Global,
@@ -150,7 +100,14 @@ fn read_found<D: Disk, C: Cutter>(
     if told > limit as u64 {
         return Err(StoreFault::TooLong);
     }
-    read_cut(disk, alloc, cutter, &mut file, told as usize)
+    let len = told as usize;
+    let mut front = Vec::new(alloc);
+    front.resize(len.min(PIECE), 0)?;
+    fill(disk, &mut file, front.as_mut_slice(), 0)?;
+    let cut = cutter.front_len(front.as_slice()).min(front.len());
+    let block = read_block(disk, alloc, &mut file, &front[cut..], len - cut)?;
+    front.truncate(cut);
+    Ok(FileParts { front, block })
 }
 
 /// The file with this name, if there is one.
