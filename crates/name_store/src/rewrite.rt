@@ -70,7 +70,7 @@ pub(crate) fn copy_to(
 {
     match target {
         Target::View(to) => assign_from(block, to, other, from, width),
-        Target::Plan(plan) => plan.assign(block.allocator(), block, other, from, width),
+        Target::Plan(plan) => plan.assign(block, other, from, width),
     }
 }
 
