@@ -1,6 +1,6 @@
 //! Casts: the items of an array as items of another element type.
-ghost use Rattle.std.specs.Prelude.{IfErr, IfOk, IsTrue, drop, if◌then◌else◌, length, map, nat_le, true, ◌*◌, ◌+◌, ◌<◌, ◌≡◌, ◌≤◌};
-ghost use Rattle.elementwise.specs.Clauses.{ScalarDescr, can_cast, cast_item, C, IsNumber, NoSuchCast, OutOfMemory, TooLarge, count, encode_item, item_from, item_size, leaf_at, leaves_of, max_bytes, offsets, offsets_in, owned_items, place, run_offsets, size, HasSource, IsCut, cast_items, source, with_leaf, AreCast, AreItems, IsCast, flat_map};
+ghost use Rattle.std.specs.Prelude.{IfErr, IfOk, IsTrue, if◌then◌else◌, length, map, nat_le, true, ◌*◌, ◌+◌, ◌<◌, ◌≡◌, ◌≤◌};
+ghost use Rattle.elementwise.specs.Clauses.{ScalarDescr, can_cast, cast_item, C, IsNumber, NoSuchCast, OutOfMemory, TooLarge, count, encode_item, item_from, item_size, leaf_at, leaves_of, max_bytes, offsets, offsets_in, owned_items, place, size, HasSource, IsCut, cast_items, source, AreCast, AreItems, IsCast, flat_map};
 
 use crate::apply::Held;
 use crate::castable::can_cast;
@@ -67,13 +67,6 @@ pub(crate) fn cast_numbers(
     made(alloc, &pairing, operands)
 }
 
-/// The bytes from a place on, which may be past the end.
-fn bytes_from(bytes: &[u8], at: usize) -> &[u8]
-    ensures { result.now ≡ drop at bytes.now }
-{
-    &bytes[at.min(bytes.len())..]
-}
-
 /// A run of items of an element type.
 #[derive(Clone, Copy, Drop)]
 struct ItemRun<'a, 'b> {
@@ -110,45 +103,34 @@ impl<'a, 'b> ItemRun<'a, 'b> {
     }
 }
 
-/// Casts a leaf of each item of a run, and writes it to its place in the rows of the result. The
-/// block is passed in and returned.
-fn cast_leaf(rows: RawBlock, from: ItemRun<'_, '_>, to: &Descr, k: usize) -> RawBlock
-    requires can { can_cast from.descr.now to.now ≡ true }
-    requires k { k < length (leaves_of to.now) }
-    requires room { from.items.run.count * item_size to.now ≤ length rows }
-    ensures written { result
-        ≡ with_leaf from.entry.descr.now to.now from.entry.items.bytes.now
-        (run_offsets from.entry.items.run) k rows }
-    ensures len { length result ≡ length rows }
-{
-    let leaf = leaf_of(to, k);
-    let source = source_of(from.descr, k);
-    let column = Column {
-        from: Side {
-            bytes: bytes_from(from.items.bytes, source.at),
-            run: from.items.run,
-            width: source.scalar.size(),
-        },
-        to: Places {
-            at: leaf.at,
-            width: leaf.scalar.size(),
-            row: to.size(),
-        },
-        rows,
-    };
-    column.cast(&source.scalar, &leaf.scalar)
-}
-
-/// A block with exactly the items of a run, cast leaf by leaf.
+/// A block with exactly the items of a run, cast leaf by leaf: all items' first leaves, then their
+/// second ones, and so on.
 fn cast_band(alloc: Global, from: ItemRun<'_, '_>, to: &Descr) -> Result<RawBlock, AllocError>
     requires can { can_cast from.descr.now to.now ≡ true }
     requires few { from.items.run.count * item_size to.now ≤ max_bytes }
     ensures { IfOk result (AreCast from.entry.items from.entry.descr.now to.now) }
 {
     let _from_item = from.descr.size();
-    let mut rows = RawBlock::try_zeroed(alloc, from.items.run.count * to.size())?;
+    let row = to.size();
+    let bytes = from.items.bytes;
+    let mut rows = RawBlock::try_zeroed(alloc, from.items.run.count * row)?;
     for k in 0..to.leaf_count() {
-        rows = cast_leaf(rows, from, to, k);
+        let leaf = leaf_of(to, k);
+        let source = source_of(from.descr, k);
+        let column = Column {
+            from: Side {
+                bytes: &bytes[source.at.min(bytes.len())..],
+                run: from.items.run,
+                width: source.scalar.size(),
+            },
+            to: Places {
+                at: leaf.at,
+                width: leaf.scalar.size(),
+                row,
+            },
+            rows,
+        };
+        rows = column.cast(&source.scalar, &leaf.scalar);
     }
     Ok(rows)
 }
@@ -222,17 +204,6 @@ fn cast_block(alloc: Global, from: Items<'_>, to: &Descr) -> Result<RawBlock, Al
     cast_run(alloc, ItemRun { items, descr }, to)
 }
 
-/// Items, cast leaf by leaf, in a block of their own in C order.
-fn cast_by_leaves(alloc: Global, from: Items<'_>, to: &Descr) -> Result<Owned, AllocError>
-    requires can { can_cast from.descr.now to.now ≡ true }
-    requires few { count from.layout.now.shape * item_size to.now ≤ max_bytes }
-    ensures { IfOk result (IsCast from.entry to.now) }
-{
-    let cast = cast_block(alloc, from, to)?;
-    let descr = Descr::try_copy(alloc, to)?;
-    Owned::over(alloc, descr, &from.layout.shape, MemoryOrder::C, cast)
-}
-
 /// Items, cast to an element type for which the cast exists.
 pub(crate) fn cast_items(alloc: Global, from: Items<'_>, to: &Descr) -> Result<Owned, AllocError>
     requires can { can_cast from.descr.now to.now ≡ true }
@@ -244,7 +215,11 @@ pub(crate) fn cast_items(alloc: Global, from: Items<'_>, to: &Descr) -> Result<O
             let near = Held::near(alloc, from);
             cast_numbers(alloc, near.items(), scalar, target)
         }
-        _ => cast_by_leaves(alloc, from, to),
+        _ => {
+            let cast = cast_block(alloc, from, to)?;
+            let descr = Descr::try_copy(alloc, to)?;
+            Owned::over(alloc, descr, &from.layout.shape, MemoryOrder::C, cast)
+        }
     }
 }
 

@@ -1,6 +1,7 @@
-use Rattle.std.proofs.Common.{◌≡◌, ◌*◌, ◌<◌, length, replicate, sym, ap, ◌∙◌, arith}
-use Rattle.elementwise.proofs.Words.{length-replicate, item_size, leaves_of, run_offsets, length-run_offsets}
+use Rattle.std.proofs.Common.{◌≡◌, ◌+◌, ◌*◌, ◌<◌, ◌≤◌, length, replicate, sym, ap, subst, ◌∙◌, arith}
+use Rattle.elementwise.proofs.Words.{length-replicate, item_size, leaf_at, leaves_of, run_offsets, length-run_offsets, EachWithin, can_cast_scalar, source}
 use Rattle.elementwise.proofs.CastLaws.{has_source, source-within, turn-done}
+use Rattle.elementwise.proofs.ColumnLaws.{dropped, leaves-within, leaf-put}
 use Rattle.elementwise.proofs.EncodedLaws.{all-zeros, zeros-stay, all-encoded}
 use Rattle.elementwise.proofs.casts.cast_band.Goals as goal
 
@@ -9,7 +10,7 @@ loop-k-init c =
     let rows = c.in_ok-rows.rows in
     let to = c.args.to.now in
     let os = run_offsets c.args.from.items.run in
-    let size : length rows ≡ c.args.from.items.run.count * item_size to = ap length c.in_ok-rows.ensures ∙ length-replicate _ 0 ∙ ap (λ n. c.args.from.items.run.count * n) c.size.ensures.value in
+    let size : length rows ≡ c.args.from.items.run.count * item_size to = ap length c.in_ok-rows.ensures ∙ length-replicate _ 0 ∙ ap (λ n. c.args.from.items.run.count * n) c.size-row.ensures.value in
     let long : length rows ≡ length os * item_size to = size ∙ ap (λ n. n * item_size to) (sym (length-run_offsets c.args.from.items.run)) in
     record {
       len = long;
@@ -17,8 +18,32 @@ loop-k-init c =
       zeros = all-zeros to (length os) rows (omega (arith, long)) (c.in_ok-rows.ensures ∙ ap (λ n. replicate n 0) (sym (ap length c.in_ok-rows.ensures ∙ length-replicate _ 0)));
     }
 
-pub cast_leaf-rows-requires-clause-room : goal.cast_leaf-rows-requires-clause-room
-cast_leaf-rows-requires-clause-room c = omega (arith, c.loop-k.invariant.len, ap (λ n. n * item_size c.args.to.now) (length-run_offsets c.args.from.items.run))
+pub source_of-source-requires : goal.source_of-source-requires
+source_of-source-requires c =
+    let low : c.loop-k.k < length (leaves_of c.args.to.now) = omega (arith, c.loop-k-test.true, c.leaf_count-k-end.ensures.value) in
+    (has_source c.args.from.descr.now c.args.to.now c.requires.can c.loop-k.k low).0
+
+pub invariant_of-column : goal.invariant_of-column
+invariant_of-column c =
+    let from = c.args.from in
+    let at = c.source_of-source.result.at in
+    let fits : at + c.size.result ≤ from.items.width = omega (arith, c.size.ensures.value, c.source_of-source.ensures.within, from.wide) in
+    record {
+      few = from.items.few;
+      within = subst (λ bytes. EachWithin (length bytes) from.items.run.offset from.items.run.step c.size.result from.items.run.count) (sym (dropped at from.items.bytes.now c.min.result c.min.ensures)) (leaves-within at c.size.result from.items.width _ _ _ from.items.bytes.now fits from.items.within);
+    }
+
+pub cast-rows-requires-clause-can : goal.cast-rows-requires-clause-can
+cast-rows-requires-clause-can c =
+    let low : c.loop-k.k < length (leaves_of c.args.to.now) = omega (arith, c.loop-k-test.true, c.leaf_count-k-end.ensures.value) in
+    (λ i. can_cast_scalar (c.source_of-source.ensures.value i).scalar (c.leaf_of-leaf.ensures.value i).scalar)
+    ∙ (has_source c.args.from.descr.now c.args.to.now c.requires.can c.loop-k.k low).1
+
+pub cast-rows-requires-clause-room : goal.cast-rows-requires-clause-room
+cast-rows-requires-clause-room c =
+    let count = c.args.from.items.run.count in
+    let long = c.loop-k.invariant.len ∙ ap (λ n. n * item_size c.args.to.now) (length-run_offsets c.args.from.items.run) ∙ ap (λ n. count * n) (sym c.size-row.ensures.value) in
+    (omega (arith, c.leaf_of-leaf.ensures.within, c.size-in-loop-k.ensures.value, c.size-row.ensures.value), omega (arith, long))
 
 pub loop-k-preserved : goal.loop-k-preserved
 loop-k-preserved c =
@@ -28,11 +53,15 @@ loop-k-preserved c =
     let k = c.loop-k.k in
     let inv = c.loop-k.invariant in
     let low : k < length (leaves_of to) = omega (arith, c.loop-k-test.true, c.leaf_count-k-end.ensures.value) in
-    let wrote = c.cast_leaf-rows.ensures.written in
+    let side = c.args.from.items in
+    let source_is = c.source_of-source.ensures.value in
+    let bytes_are = dropped c.source_of-source.result.at side.bytes.now c.min.result c.min.ensures in
+    let wrote = leaf-put side.run (source from k) c.source_of-source.result (leaf_at to k) c.leaf_of-leaf.result _ side.width c.size.result c.size-row.result (item_size to) _ side.bytes.now c.loop-k.rows c.cast-rows.result
+    side.within source_is c.leaf_of-leaf.ensures.value bytes_are c.size.ensures.value c.size-row.ensures.value c.cast-rows.ensures.0 in
     record {
-      len = c.cast_leaf-rows.ensures.len ∙ inv.len;
-      done = turn-done from to c.args.from.items.bytes.now os c.loop-k.rows _ k low (omega (arith, inv.len)) c.size.ensures.apart wrote inv.done;
-      zeros = zeros-stay from to c.args.from.items.bytes.now os c.loop-k.rows _ k low (omega (arith, inv.len)) c.size.ensures.apart wrote inv.zeros;
+      len = c.cast-rows.ensures.1 ∙ inv.len;
+      done = turn-done from to c.args.from.items.bytes.now os c.loop-k.rows _ k low (omega (arith, inv.len)) c.size-row.ensures.apart wrote inv.done;
+      zeros = zeros-stay from to c.args.from.items.bytes.now os c.loop-k.rows _ k low (omega (arith, inv.len)) c.size-row.ensures.apart wrote inv.zeros;
     }
 
 pub returns : goal.returns
@@ -42,5 +71,5 @@ returns c =
     let inv = c.loop-k.invariant in
     all-encoded from to c.args.from.items.bytes.now (run_offsets c.args.from.items.run) c.loop-k.rows inv.len c.requires.can
     (λ k low. inv.done k (omega (arith, low, c.loop-k-test.false, c.leaf_count-k-end.ensures.value)))
-    inv.zeros c.size.ensures.apart
+    inv.zeros c.size-row.ensures.apart
     (λ k low. source-within from k c.size-from_item.ensures.apart (has_source from to c.requires.can k low).0)

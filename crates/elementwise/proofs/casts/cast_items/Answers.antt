@@ -1,7 +1,9 @@
 use Rattle.std.proofs.Common.{◌*◌, ◌≤◌, true, map, IfOk, sym, ap, arith, subst, ◌∙◌}
-use Rattle.elementwise.proofs.Words.{and_parts, map-map, Descr, item_size, item_from, count, max_bytes, offsets, ScalarDescr, can_cast_scalar, can_cast, cast_item, IsMade}
+use Rattle.elementwise.proofs.Words.{and_parts, map-map, Descr, item_size, item_from, count, max_bytes, offsets, length-offsets, multiples, ScalarDescr, can_cast_scalar, can_cast, cast_item, IsMade}
+use Rattle.elementwise.proofs.ColumnLaws.{length-cast_items}
+use Rattle.elementwise.proofs.EncodedLaws.{items-read}
 use Rattle.elementwise.proofs.CutLaws.{no_text, numbers_cast}
-use Rattle.elementwise.proofs.MadeLaws.{made-in}
+use Rattle.elementwise.proofs.MadeLaws.{made-in, over-made}
 use Rattle.elementwise.proofs.casts.cast_items.Goals as goal
 
 pub cast_numbers-requires-clause-from : goal.cast_numbers-requires-clause-from
@@ -35,3 +37,23 @@ returns-in-Scalar-Scalar c =
     ∙ (λ i. map (cast_item ((c.items.ensures.descr ∙ c.near-near.ensures.descr) i) to) (map (item_from x.descr.now x.block.now) (offsets x.layout.now)))
     ∙ map-map (cast_item x.descr.now to) (item_from x.descr.now x.block.now) (offsets x.layout.now))
     c.cast_numbers.ensures)
+
+pub over-requires-clause-whole : goal.over-requires-clause-whole
+over-requires-clause-whole c =
+    let l = c.args.from.layout.now in
+    c.in_ok-cast-in_default.ensures.long ∙ λ i. (length-cast_items c.args.from.descr.now c.args.to.now c.args.from.block.now (offsets l) ∙ length-offsets l) i * item_size (sym c.in_ok-descr-in_default.ensures i)
+
+pub over-requires-clause-small : goal.over-requires-clause-small
+over-requires-clause-small c =
+    let l = c.args.from.layout.now in
+    omega (arith, c.in_ok-cast-in_default.ensures.long, ap (λ n. n * item_size c.args.to.now) (length-cast_items c.args.from.descr.now c.args.to.now c.args.from.block.now (offsets l) ∙ length-offsets l), c.requires.few)
+
+pub returns-in_ok-descr-in_default : goal.returns-in_ok-descr-in_default
+returns-in_ok-descr-in_default c =
+    let to = c.args.to.now in
+    let l = c.args.from.layout.now in
+    let owned = c.over.ensures in
+    let cast = c.in_ok-cast-in_default.ensures in
+    let many = length-cast_items c.args.from.descr.now c.args.to.now c.args.from.block.now (offsets l) ∙ length-offsets l in
+    over-made c.in_ok-descr-in_default.descr to l.shape _ c.over.result c.in_ok-cast-in_default.cast c.in_ok-descr-in_default.ensures owned.descr owned.shape owned.order owned.block
+    (ap (λ n. map (item_from to c.in_ok-cast-in_default.cast) (multiples (item_size to) n)) (sym many) ∙ items-read to _ c.in_ok-cast-in_default.cast cast) cast.encoded
