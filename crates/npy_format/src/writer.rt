@@ -1,6 +1,6 @@
 //! Writes files.
-ghost use Rattle.std.specs.Prelude.{◌≡◌, Bool, ◌+◌, ◌*◌, ◌<◌, ◌≤◌, ◌++◌, length, map, take, drop, All, IfOk, OnOk, Err};
-ghost use Rattle.npy_format.specs.Clauses.{flat_map, TooLarge, Gives, item_size, decode_item, encode_item, item_from, blocks, max_bytes, count, offsets, written_text, written_header, is_fortran, file_of, saved, LoadsAs, IsSound, as_in_file, file_at};
+ghost use Rattle.std.specs.Prelude.{◌≡◌, Bool, ◌+◌, ◌*◌, ◌<◌, ◌≤◌, length, map, All, IfOk, Err};
+ghost use Rattle.npy_format.specs.Clauses.{TooLarge, Gives, item_size, item_from, max_bytes, count, offsets, written_text, written_header, is_fortran, file_of, saved, LoadsAs, IsSound, file_at};
 
 use crate::file_header::file_header;
 use crate::header_text::header_text;
@@ -34,22 +34,6 @@ pub(crate) fn header(
     file_header(alloc, text.as_slice())
 }
 
-/// Writes the `count` items after the first `start` bytes as a file stores them.
-fn write_behind(
-    alloc: Global,
-    file: &mut Vec<u8>,
-    start: usize,
-    count: usize,
-    descr: &Descr,
-) -> Result<(), AllocError>
-    requires { length file.old.items ≡ start + count * item_size descr.now }
-    ensures { OnOk result
-        (file.new.items ≡ take start file.old.items
-        ++ as_in_file descr.now count (drop start file.old.items)) }
-{
-    write_items(alloc, &mut file.as_mut_slice()[start..], count, descr)
-}
-
 /// The file of items that have `len` bytes.
 pub(crate) fn written(
     alloc: Global,
@@ -69,7 +53,12 @@ pub(crate) fn written(
     let start = file.len();
     file.reserve_exact(len)?;
     push_items(&mut file, bytes, layout, width)?;
-    write_behind(alloc, &mut file, start, layout.shape.items(), descr)?;
+    write_items(
+        alloc,
+        &mut file.as_mut_slice()[start..],
+        layout.shape.items(),
+        descr,
+    )?;
     Ok(file)
 }
 
