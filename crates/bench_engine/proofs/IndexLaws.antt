@@ -1,6 +1,6 @@
 -- Index lists with names of arrays.
 use Rattle.std.proofs.Common.{◌≡◌, ◌<◌, ◌≤◌, ◌+◌, ◌*◌, ◌&&◌, ℕ, zero, suc, true, false, nat_le, List, [], ◌∷◌, ◌++◌, length, map, take, get_or, slice_index, Some, refl, sym, ap, ◌∙◌, subst, All, Result, Ok, Err, arith}
-use Rattle.bench_engine.proofs.Words.{Contains, list_all, le-leb, lt-leb, and_parts, take_more, length-map, map_push, All-map, Contains-get_or, list_all-append, map-map, and-false, Refusal, TooLarge, item_from, item_size, IndexItem, Layout, count, indexes, rank, length-indexes, rank-lt, get_or-indexes, index_at, length-offsets, offsets, max_bytes, view_through, IndexArray, indexed, Planned, IsPlanOf, GivesPlan, index_array_of, index_item_of, index_items, first_number, Items, State, is_bound, buffer_of, descr_of, addresses, read, start_at, Shows, ArrayRef, offsets-at, View, Array, names_in_item, names_in_index, by_items, array_by_items, gathered, viewed}
+use Rattle.bench_engine.proofs.Words.{Contains, list_all, le-leb, lt-leb, and_parts, take_more, length-map, map_push, All-map, Contains-get_or, list_all-append, map-map, Refusal, TooLarge, item_from, item_size, IndexItem, Layout, count, indexes, rank, length-indexes, rank-lt, get_or-indexes, index_at, length-offsets, offsets, max_bytes, view_through, IndexArray, indexed, Planned, IsPlanOf, GivesPlan, index_array_of, index_item_of, index_items, first_number, Items, State, is_bound, buffer_of, descr_of, addresses, read, start_at, Shows, ArrayRef, offsets-at, View, Array, names_in_item, names_in_index, by_items, array_by_items, gathered, viewed}
 use Rattle.bench_engine.proofs.Makes.{passed}
 
 -- ---- names that are bound
@@ -8,19 +8,10 @@ use Rattle.bench_engine.proofs.Makes.{passed}
 pub all-bound : (s : State) (item : IndexItem (List ℕ)) (index : List (IndexItem (List ℕ))) → list_all (is_bound s) (names_in_index (item ∷ index)) ≡ (list_all (is_bound s) (names_in_item item) && list_all (is_bound s) (names_in_index index))
 all-bound s item index = list_all-append (is_bound s) (names_in_item item) (names_in_index index)
 
-pub bound-more : (s : State) (index : List (IndexItem (List ℕ))) (item : IndexItem (List ℕ)) → list_all (is_bound s) (names_in_index index) ≡ true → list_all (is_bound s) (names_in_item item) ≡ true → list_all (is_bound s) (names_in_index (index ++ item ∷ [])) ≡ true
-bound-more s [] item all one = all-bound s item [] ∙ ap (λ b. b && true) one
-bound-more s (first ∷ index) item all one =
-    let parts = and_parts (list_all (is_bound s) (names_in_item first)) (list_all (is_bound s) (names_in_index index)) (sym (all-bound s first index) ∙ all) in
-    all-bound s first (index ++ item ∷ []) ∙ λ i. parts.0 i && bound-more s index item parts.1 one i
-
-pub none-bound : (s : State) (index : List (IndexItem (List ℕ))) (k : ℕ) (item : IndexItem (List ℕ)) → k < length index → item ≡ get_or index k item → list_all (is_bound s) (names_in_item item) ≡ false → list_all (is_bound s) (names_in_index index) ≡ false
-none-bound s index k item below is none = here s index k item below (ap (λ (i : IndexItem (List ℕ)). list_all (is_bound s) (names_in_item i)) (sym is) ∙ none)
-  where
-    here : (s : State) (index : List (IndexItem (List ℕ))) (k : ℕ) (d : IndexItem (List ℕ)) → k < length index → list_all (is_bound s) (names_in_item (get_or index k d)) ≡ false → list_all (is_bound s) (names_in_index index) ≡ false
-    here s [] k d below none = absurd (omega arith)
-    here s (item ∷ index) zero d below none = all-bound s item index ∙ ap (λ b. b && list_all (is_bound s) (names_in_index index)) none
-    here s (item ∷ index) (suc k) d below none = all-bound s item index ∙ ap (λ b. list_all (is_bound s) (names_in_item item) && b) (here s index k d (omega arith) none) ∙ and-false (list_all (is_bound s) (names_in_item item))
+-- all names are bound if those in each item are
+pub bound-in_each : (s : State) (index : List (IndexItem (List ℕ))) → list_all (λ item. list_all (is_bound s) (names_in_item item)) index ≡ list_all (is_bound s) (names_in_index index)
+bound-in_each s [] = refl
+bound-in_each s (item ∷ index) = ap (λ b. list_all (is_bound s) (names_in_item item) && b) (bound-in_each s index) ∙ sym (all-bound s item index)
 
 -- ---- arrays in the place of names
 

@@ -15,7 +15,7 @@ pub use Rattle.bench_engine.specs.inside.LoadedFiles.{Finds}
 pub use Rattle.bench_engine.specs.inside.Meeting.{Meets}
 pub use Rattle.bench_engine.specs.inside.Operands.{AreSources, GivesGiven, HoldsItems, IsGiven, IsNamed, IsNamedBy, IsPart, Knows, LiesInBuffer, OwnStands, Stands, StandsFor, buffer_number}
 pub use Rattle.bench_engine.specs.inside.OwnContents.{IsInCOrder, held}
-pub use Rattle.bench_engine.specs.inside.Parts.{Duplicates, IsShown, Sees, SeesIn, origin_of_bound, shape_of_bound}
+pub use Rattle.bench_engine.specs.inside.Parts.{IsShown, Sees, SeesIn, origin_of_bound, shape_of_bound}
 pub use Rattle.bench_engine.specs.inside.Printing.{AsksToPrint, MayPrint}
 pub use Rattle.bench_engine.specs.inside.ReadLines.{ReadsAs, meaning_of_read}
 pub use Rattle.bench_engine.specs.inside.SavedFiles.{Puts}

@@ -1,6 +1,6 @@
 //! `print X`, `info X`, `format X`, `names`, `shares X Y`: questions, which change nothing.
 ghost use Rattle.std.specs.Prelude.{◌≡◌, ◌++◌, codes, OnOk, true, ◌&&◌};
-ghost use Rattle.bench_engine.specs.Clauses.{is_bound, offsets, CarriesOut, print_outcome, info_outcome, format_outcome, accepted_with, shares_outcome, info_text, layout_words, order_text, yes_or_no, format_text, names_text};
+ghost use Rattle.bench_engine.specs.Clauses.{is_bound, offsets, CarriesOut, print_outcome, info_outcome, format_outcome, accepted_with, shares_outcome, info_text, order_text, yes_or_no, names_text};
 
 use crate::replies::set_array_words;
 use crate::reply_text::ReplyText;
@@ -41,26 +41,6 @@ fn yes_or_no(is: bool) -> &'static [u8]
     if is { b"yes" } else { b"no" }
 }
 
-/// Appends `strides SHAPE at N order O write W`.
-fn push_layout_words(
-    out: &mut ReplyText,
-    layout: &Layout,
-    item: usize,
-    writable: bool,
-) -> Result<(), AllocError>
-    ensures { OnOk result (out.new ≡ out.old
-        ++ layout_words item layout.now.shape (offsets layout.now) writable) }
-{
-    let alloc = out.allocator();
-    let strides = Layout::printed_strides(alloc, layout)?;
-    let address = layout.first_address();
-    let text = format!(in alloc; "strides {strides} at {address} order ")?;
-    out.push(text.as_bytes())?;
-    out.push(order_text(layout, item))?;
-    out.push(b" write ")?;
-    out.push(yes_or_no(writable))
-}
-
 /// Makes the reply of `info`.
 fn set_info_text(
     out: &mut ReplyText,
@@ -73,8 +53,14 @@ fn set_info_text(
         ≡ info_text name.now descr.now layout.now.shape (offsets layout.now) writable) }
 {
     set_array_words(out, b"info ", name, descr, &layout.shape)?;
-    out.push(b" ")?;
-    push_layout_words(out, layout, descr.size(), writable)
+    let alloc = out.allocator();
+    let strides = Layout::printed_strides(alloc, layout)?;
+    let address = layout.first_address();
+    let text = format!(in alloc; " strides {strides} at {address} order ")?;
+    out.push(text.as_bytes())?;
+    out.push(order_text(layout, descr.size()))?;
+    out.push(b" write ")?;
+    out.push(yes_or_no(writable))
 }
 
 /// Reports the type, shape and strides of a name's array, and where its items are in its buffer, in
@@ -91,15 +77,6 @@ pub fn info(bench: &Bench, name: &Name, out: &mut ReplyText) -> Result<(), Refus
     Ok(())
 }
 
-/// Makes `format TEXT` the reply.
-fn set_format_text(out: &mut ReplyText, descr: &Descr) -> Result<(), AllocError>
-    ensures { OnOk result (out.new ≡ format_text descr.now) }
-{
-    let text = format_write(out.allocator(), descr)?;
-    out.set(b"format ", b"");
-    out.push(text.as_slice())
-}
-
 /// Reports the format text of a name's array.
 pub fn format(bench: &Bench, name: &Name, out: &mut ReplyText) -> Result<(), Refusal>
     ensures { CarriesOut (is_bound bench.now.state name.now)
@@ -109,7 +86,9 @@ pub fn format(bench: &Bench, name: &Name, out: &mut ReplyText) -> Result<(), Ref
     let Some(array) = bench.get(name) else {
         return Err(Refusal::UnknownName);
     };
-    set_format_text(out, array.descr)?;
+    let text = format_write(out.allocator(), array.descr)?;
+    out.set(b"format ", b"");
+    out.push(text.as_slice())?;
     Ok(())
 }
 

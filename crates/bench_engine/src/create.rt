@@ -1,5 +1,5 @@
 //! `X = zeros ..`, `full`, `arange`, `array`: bind a name to a new array.
-ghost use Rattle.std.specs.Prelude.{◌≡◌, IfOk, ◌≤◌, ◌-◌, ◌*◌, ◌^◌, length, map, min, replicate, true};
+ghost use Rattle.std.specs.Prelude.{◌≡◌, IfOk, ◌≤◌, ◌-◌, ◌*◌, length, map, min, replicate, true};
 ghost use Rattle.bench_engine.specs.Clauses.{Gives, Answers, item_size, decode_item, item_value, item_values, blocks, IsNumber, size, max_bytes, max_items, count, shape_of, range_count, range_items, has_room_for, ScalarDescr, array_type, zeros_contents, full_contents, array_contents, arange_contents, contents_of, integer_scalar, range_scalar, held, CarriesOut, bound_new, creation_outcome};
 
 use crate::replies::{Origin, set_bound_text};
@@ -25,22 +25,15 @@ pub fn item_of(alloc: Global, descr: &Descr, literal: &Literal) -> Result<SmallV
     Ok(item)
 }
 
-/// The lengths as machine numbers. A length that is too large becomes the largest number.
-fn capped(alloc: Global, lengths: &[u128]) -> Result<SmallVec<usize, 4>, AllocError>
-    ensures { IfOk result (λ axes. axes.items ≡ map (λ n. min n (2 ^ 64 - 1)) lengths.now) }
-{
-    let mut axes = SmallVec::new(alloc);
-    for length in lengths {
-        axes.push((*length).min(u128::from(u64::MAX)) as usize)?;
-    }
-    Ok(axes)
-}
-
-/// The shape with the lengths that a script gives.
+/// The shape with the lengths that a script gives. A length that is too large becomes the largest
+/// machine number.
 pub fn shape_of(alloc: Global, lengths: &Lengths) -> Result<Shape, Refusal>
     ensures { Gives (λ s. s) result (shape_of lengths.now) }
 {
-    let axes = capped(alloc, lengths.as_slice())?;
+    let mut axes: SmallVec<usize, 4> = SmallVec::new(alloc);
+    for length in lengths.as_slice() {
+        axes.push((*length).min(u128::from(u64::MAX)) as usize)?;
+    }
     Shape::try_new(alloc, axes.as_slice())
 }
 

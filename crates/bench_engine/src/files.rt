@@ -1,7 +1,7 @@
 //! `save X "f"` and `X = load "f"`: write an array to a file, and bind a name to the array in a
 //! file.
 ghost use Rattle.std.specs.Prelude.{◌≡◌, ◌++◌, codes, decimal, OnOk};
-ghost use Rattle.bench_engine.specs.Clauses.{store_refusal, world, bound_loaded, Save, Bind, has_room_for, Load, MayAnswer, Carried, CarriesOut, Puts};
+ghost use Rattle.bench_engine.specs.Clauses.{store_refusal, world, bound_loaded, Save, Bind, has_room_for, Load, MayAnswer, Carried, CarriesOut};
 ghost use Rattle.bench_engine.specs.declared.replies.Origin.TheVariants as origin;
 ghost use Rattle.bench_engine.specs.Clauses.{bound_text, held, Finds};
 
@@ -26,31 +26,6 @@ fn refusal_of(fault: StoreFault) -> Refusal
     }
 }
 
-/// Writes the bytes of a file, given in two parts, to a store.
-fn put<N: NpyStore>(
-    alloc: Global,
-    store: &mut N,
-    file: &FileName,
-    front: &[u8],
-    items: &[u8],
-) -> Result<(), Refusal>
-    ensures { Puts (N.shelf store.old) (N.shelf store.new) file.now
-        (front.now ++ items.now) result }
-{
-    match store.write_parts(alloc, file.as_slice(), front, items) {
-        Ok(()) => Ok(()),
-        Err(fault) => Err(refusal_of(fault)),
-    }
-}
-
-/// Makes `ok save N` the reply. It takes no memory.
-fn set_saved_text(out: &mut ReplyText, len: usize)
-    ensures { out.new ≡ codes "ok save " ++ decimal len }
-{
-    let mut buffer = Buffer::new();
-    out.set(b"ok save ", buffer.format(len).as_bytes());
-}
-
 /// Writes a name's array to a file. If the command is refused without the store, the store is not
 /// asked.
 pub fn save<N: NpyStore>(
@@ -67,16 +42,18 @@ pub fn save<N: NpyStore>(
     let Some(array) = bench.get(name) else {
         return Err(Refusal::UnknownName);
     };
-    let parts = npy_parts(out.allocator(), array.block, array.layout, array.descr)?;
-    put(
-        out.allocator(),
-        store,
-        file,
-        parts.front.as_slice(),
-        parts.items,
-    )?;
-    set_saved_text(out, parts.front.len() + parts.items.len());
-    Ok(())
+    let alloc = out.allocator();
+    let parts = npy_parts(alloc, array.block, array.layout, array.descr)?;
+    let front = parts.front.as_slice();
+    match store.write_parts(alloc, file.as_slice(), front, parts.items) {
+        Ok(()) => {
+            let mut buffer = Buffer::new();
+            let len = front.len() + parts.items.len();
+            out.set(b"ok save ", buffer.format(len).as_bytes());
+            Ok(())
+        }
+        Err(fault) => Err(refusal_of(fault)),
+    }
 }
 
 /// The array in a file, and the number of bytes that follow it.

@@ -24,12 +24,7 @@ fn is_bound(bench: &Bench, item: &IndexItem<Name>) -> bool
 pub fn are_bound(bench: &Bench, index: &[IndexItem<Name>]) -> bool
     ensures { result ≡ list_all (is_bound bench.now.state) (names_in_index index.now) }
 {
-    for item in index {
-        if !is_bound(bench, item) {
-            return false;
-        }
-    }
-    true
+    index.iter().all(|item| is_bound(bench, item))
 }
 
 /// An item with the array in place of its name.

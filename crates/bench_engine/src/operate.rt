@@ -98,8 +98,7 @@ impl Part<'_> {
         ensures { result ≡ buffer_number self.now }
     {
         match self {
-            Part::Whole(array) => Some(array.number),
-            Part::View(array, _) => Some(array.number),
+            Part::Whole(array) | Part::View(array, _) => Some(array.number),
             Part::Copy(_) => None,
         }
     }
@@ -272,25 +271,18 @@ fn find_sources<'a>(bench: &'a Bench, computation: &Computation) -> Result<Sourc
     match computation {
         Computation::Duplicate { source, .. }
         | Computation::Cast { source, .. }
-        | Computation::Reduce { source, .. } => {
-            let first = bench.get(source).ok_or(Refusal::UnknownName)?;
-            Ok(Sources {
-                first,
-                second: None,
-            })
-        }
-        Computation::Transform { operand, .. } => {
-            let first = operand_array(bench, operand)?;
-            Ok(Sources {
-                first,
-                second: None,
-            })
-        }
-        Computation::Combine { left, right, .. } => {
-            let first = operand_array(bench, left)?;
-            let second = argument_array(bench, right)?;
-            Ok(Sources { first, second })
-        }
+        | Computation::Reduce { source, .. } => Ok(Sources {
+            first: bench.get(source).ok_or(Refusal::UnknownName)?,
+            second: None,
+        }),
+        Computation::Transform { operand, .. } => Ok(Sources {
+            first: operand_array(bench, operand)?,
+            second: None,
+        }),
+        Computation::Combine { left, right, .. } => Ok(Sources {
+            first: operand_array(bench, left)?,
+            second: argument_array(bench, right)?,
+        }),
     }
 }
 

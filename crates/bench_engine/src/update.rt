@@ -1,6 +1,6 @@
 //! `upd X[ix] OP Z`: the new items, and the places where they are written.
 ghost use Rattle.std.specs.Prelude.{◌≡◌, ◌≤◌, ◌*◌, true, map, Ok, IfSome};
-ghost use Rattle.bench_engine.specs.Clauses.{IsPermutation, item_from, item_size, can_cast, cast_item, offsets, count, max_bytes, IsShape, Argument, State, LiteralArgument, View, OperandValues, argument_values, literal_values, operand_values, updated_items, changed_with, updated, IsGiven, Stands, HoldsItems, GoTogether, IsTargetIn, IsTargetOf, Writes, WritesIn, Meets};
+ghost use Rattle.bench_engine.specs.Clauses.{IsPermutation, item_from, item_size, can_cast, cast_item, offsets, count, max_bytes, Argument, State, LiteralArgument, View, OperandValues, argument_values, literal_values, operand_values, updated_items, changed_with, updated, IsGiven, Stands, HoldsItems, GoTogether, IsTargetIn, IsTargetOf, Writes, WritesIn, Meets};
 
 use crate::operate::{items_of_view, result_scalar, work, work_literal};
 use crate::write::Given;
@@ -100,10 +100,7 @@ fn near(alloc: Global, view: Layout) -> Layout
     ensures { IsPermutation (offsets view) (offsets result) }
 {
     match in_memory_order(alloc, &view, &view) {
-        Some(pair) => {
-            let LayoutPair { target, source: _ } = pair;
-            target
-        }
+        Some(pair) => pair.target,
         None => view,
     }
 }
@@ -148,37 +145,6 @@ fn near_both(alloc: Global, view: &Layout, items: &Layout) -> Option<LayoutPair>
     }
 }
 
-/// The result of an operation on the items of the first view of a pair and those of the second.
-fn pair_by_items(
-    alloc: Global,
-    array: &ArrayRef<'_>,
-    pair: LayoutPair,
-    operation: Operation,
-    items: Items<'_>,
-) -> Result<Writing, Refusal>
-    requires { (view : Layout) × GoTogether view items.layout.now pair
-        × IsTargetOf array.now (View view) }
-    ensures { (view : Layout) (w : OperandValues) → IsShape view.shape
-        → GoTogether view items.entry.layout.now pair → Stands w items.entry
-        → Writes array.now (View view)
-        (λ s part. updated_items operation array.now.descr.now (operand_values s part) w) result }
-{
-    let LayoutPair { target, source } = pair;
-    // These calls tell the prover what lengths a shape may have, and how large an item may be.
-    let _size = array.descr.size();
-    let _lengths = target.shape.as_slice();
-    let beside = Items {
-        block: items.block,
-        layout: &source,
-        descr: items.descr,
-    };
-    let new = changed_by_items(alloc, operation, items_of_view(array, &target), beside)?;
-    Ok(Writing {
-        target: Target::View(target),
-        source: Source::Block(new),
-    })
-}
-
 /// The result of an operation on the items of a view and other items, which are stretched to its
 /// shape.
 fn view_by_items(
@@ -192,10 +158,22 @@ fn view_by_items(
     ensures { (w : OperandValues) → Stands w items.entry → Writes array.now (View view)
         (λ s part. updated_items operation array.now.descr.now (operand_values s part) w) result }
 {
-    // This call tells the prover what lengths a shape may have.
-    let _lengths = view.shape.as_slice();
+    // These calls tell the prover what lengths shapes may have, and how large an item may be.
+    let _size = array.descr.size();
+    let _before = view.shape.as_slice();
     if let Some(pair) = near_both(alloc, &view, items.layout) {
-        return pair_by_items(alloc, array, pair, operation, items);
+        let LayoutPair { target, source } = pair;
+        let _after = target.shape.as_slice();
+        let beside = Items {
+            block: items.block,
+            layout: &source,
+            descr: items.descr,
+        };
+        let new = changed_by_items(alloc, operation, items_of_view(array, &target), beside)?;
+        return Ok(Writing {
+            target: Target::View(target),
+            source: Source::Block(new),
+        });
     }
     let new = changed_by_items(alloc, operation, items_of_view(array, &view), items)?;
     Ok(Writing {

@@ -1,7 +1,7 @@
 //! `X = Y`, `X = Y[ix]`, `X = transpose Y`, `X = reshape Y S`, `X = broadcast Y S`, `X = field Y
 //! "f"`: bind a name to a view of another name's array, or to a copy of some of its items.
 ghost use Rattle.std.specs.Prelude.{◌≡◌, true, option_copied, ◌∷◌};
-ghost use Rattle.bench_engine.specs.Clauses.{list_all, count, Whole, Indexed, Transposed, Reshaped, Broadcast, is_bound, Shows, Field, Array, names_in_index, names_in_viewing, view_outcome, IsShown, Sees, SeesIn, Duplicates, shape_of_bound, origin_of_bound, CarriesOut};
+ghost use Rattle.bench_engine.specs.Clauses.{list_all, Whole, Indexed, Transposed, Reshaped, Broadcast, is_bound, Shows, Field, Array, names_in_index, names_in_viewing, view_outcome, IsShown, Sees, SeesIn, shape_of_bound, origin_of_bound, CarriesOut};
 ghost use Rattle.name_store.specs.declared.bound.Bound.TheVariants.{View};
 
 use crate::create::shape_of;
@@ -49,14 +49,6 @@ fn items<'a>(array: &ArrayRef<'a>, layout: Layout, writable: bool) -> Viewed<'a>
         bound,
         descr: array.descr,
     }
-}
-
-/// `Y`
-fn whole<'a>(alloc: Global, array: &ArrayRef<'a>) -> Result<Viewed<'a>, Refusal>
-    ensures { Sees Whole array.now result }
-{
-    let layout = Layout::try_copy(alloc, array.layout)?;
-    Ok(items(array, layout, array.writable))
 }
 
 /// `Y[ix]`: a copy if the list names an array.
@@ -129,26 +121,6 @@ fn broadcast<'a>(
     Ok(items(array, layout, false))
 }
 
-/// A copy of an array in C order, under a shape with the same number of items.
-fn duplicate<'a>(alloc: Global, array: &ArrayRef<'a>, shape: &Shape) -> Result<Viewed<'a>, Refusal>
-    requires shown { IsShown array.now }
-    requires items { count shape.now ≡ count array.now.layout.now.shape }
-    ensures { Duplicates shape.now array.now result }
-{
-    let copy = arrays::copy(
-        alloc,
-        array.block,
-        array.layout,
-        array.descr,
-        MemoryOrder::C,
-    )?;
-    let owned = Owned::over(alloc, copy.descr, shape, MemoryOrder::C, copy.block)?;
-    Ok(Viewed {
-        bound: Bound::Fresh(owned),
-        descr: array.descr,
-    })
-}
-
 /// `reshape Y S`: the items are copied if no strides lead to them in the new shape.
 fn reshaped<'a>(
     alloc: Global,
@@ -162,7 +134,18 @@ fn reshaped<'a>(
     if let Some(layout) = reshape_rule::no_copy(alloc, array.layout, &shape)? {
         return Ok(items(array, layout, array.writable));
     }
-    duplicate(alloc, array, &shape)
+    let copy = arrays::copy(
+        alloc,
+        array.block,
+        array.layout,
+        array.descr,
+        MemoryOrder::C,
+    )?;
+    let owned = Owned::over(alloc, copy.descr, &shape, MemoryOrder::C, copy.block)?;
+    Ok(Viewed {
+        bound: Bound::Fresh(owned),
+        descr: array.descr,
+    })
 }
 
 /// Whether all names in a view's description are bound.
@@ -187,7 +170,10 @@ fn seen<'a>(
     ensures { SeesIn bench.now.state how.now array.now result }
 {
     match how {
-        Viewing::Whole => whole(alloc, array),
+        Viewing::Whole => {
+            let layout = Layout::try_copy(alloc, array.layout)?;
+            Ok(items(array, layout, array.writable))
+        }
         Viewing::Indexed(index) => indexed(alloc, bench, array, index),
         Viewing::Field(part) => field(alloc, array, part),
         Viewing::Transposed(axes) => match axes {

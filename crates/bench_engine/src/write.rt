@@ -1,13 +1,13 @@
 //! `set X[ix] = Z` and `upd X[ix] OP Z`: write to items of an array.
-ghost use Rattle.std.specs.Prelude.{◌≡◌, ◌≤◌, ◌*◌, true, ℕ, List, Some, ◌++◌, ◌∷◌};
-ghost use Rattle.bench_engine.specs.Clauses.{list_all, item_size, count, max_bytes, max_items, is_bound, find_array, State, Argument, Shows, Supplies, Array, argument_items, names_in_argument, target_part, new_items, write_outcome, write_reply, Fitted, IsTarget, IsGiven, GivesGiven, IsNamedBy, names_in_index, CarriesOut, Meets, IsTargetIn, Prepares, WritesIn};
+ghost use Rattle.std.specs.Prelude.{◌≡◌, ◌≤◌, ◌*◌, true, Some, ◌++◌, ◌∷◌};
+ghost use Rattle.bench_engine.specs.Clauses.{list_all, item_size, count, max_bytes, max_items, is_bound, State, Argument, Supplies, argument_items, names_in_argument, new_items, write_outcome, write_reply, Fitted, IsGiven, GivesGiven, IsNamedBy, names_in_index, CarriesOut, Meets, IsTargetIn, Prepares, WritesIn};
 
 use crate::create::item_of;
 use crate::index_list::{are_bound, named_target};
 use crate::operate::{Part, argument_array, operand_part};
 use crate::reply_text::ReplyText;
 use crate::update::{Writing, updated};
-use elem_descr::{Descr, IndexItem, Name, Refusal};
+use elem_descr::{Descr, Name, Refusal};
 use elementwise::Items;
 use itoa::Buffer;
 use name_store::{ArrayRef, Bench, Source, Target};
@@ -93,27 +93,6 @@ fn source_of(
     }
 }
 
-/// The places of an array that an index list selects for writing.
-fn target_of(
-    alloc: Global,
-    bench: &Bench,
-    array: &ArrayRef<'_>,
-    index: &[IndexItem<Name>],
-) -> Result<Target, Refusal>
-    requires bound { list_all (is_bound bench.now.state) (names_in_index index.now) ≡ true }
-    ensures { (name : List ℕ) (a : Array) → find_array bench.now.state.names name ≡ Some a
-        → Shows bench.now.state a array.now
-        → Meets (IsTarget bench.now.state name a) result (target_part bench.now.state a index.now) }
-{
-    let target = named_target(alloc, bench, array, index)?;
-    if !array.writable {
-        return Err(Refusal::ReadOnly);
-    }
-    // This call tells the prover how large an item may be.
-    let _size = array.descr.size();
-    Ok(target)
-}
-
 /// Makes `ok set N` or `ok upd N` the reply. It takes no memory.
 fn set_count(out: &mut ReplyText, operation: Option<Operation>, count: usize)
     requires { count ≤ max_items }
@@ -171,8 +150,12 @@ fn writing_of(alloc: Global, bench: &Bench, assignment: Assignment<'_>) -> Resul
         return Err(Refusal::UnknownName);
     }
     let source = argument_array(bench, assignment.value)?;
-    let target = target_of(alloc, bench, &array, index)?;
-    // This call tells the prover how many items a shape may have.
+    let target = named_target(alloc, bench, &array, index)?;
+    if !array.writable {
+        return Err(Refusal::ReadOnly);
+    }
+    // These calls tell the prover how large an item may be, and how many items a shape may have.
+    let _size = array.descr.size();
     let _count = target.shape().items();
     let given = given_by(alloc, bench, assignment.value, source)?;
     new_items(alloc, &array, target, assignment.operation, &given)

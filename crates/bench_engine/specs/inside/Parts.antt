@@ -4,7 +4,7 @@ use Rattle.bench_engine.specs.Words.{Descr, Refusal, Viewing, State, descr_of, S
 use Rattle.name_store.specs.declared.bound.Bound.TheVariants as bound
 use Rattle.bench_engine.specs.declared.view.Viewed.{Viewed}
 use Rattle.bench_engine.specs.inside.OwnContents.{held}
-use Rattle.bench_engine.specs.Machine.{ViewOrCopy, a_view, a_copy, as_copy, seen}
+use Rattle.bench_engine.specs.Machine.{ViewOrCopy, a_view, a_copy, seen}
 use Rattle.bench_engine.specs.declared.replies.Origin.{Origin}
 use Rattle.bench_engine.specs.declared.replies.Origin.TheVariants as origin
 use Rattle.bench_engine.specs.inside.Meeting.{Meets}
@@ -35,10 +35,6 @@ Sees how r result = (s : State) (array : Array) → Shows s array r → Meets (I
 -- the same in one state
 abbrev pub SeesIn : State → Viewing → ArrayRef → Result Viewed Refusal → Type 0
 SeesIn s how r result = (array : Array) → Shows s array r → Meets (IsSeen s) result (seen how s array)
-
--- the same for a copy of the items under this shape
-abbrev pub Duplicates : List ℕ → ArrayRef → Result Viewed Refusal → Type 0
-Duplicates shape r result = (s : State) (array : Array) → Shows s array r → Meets (IsSeen s) result (as_copy s array shape)
 
 -- the shape of what is bound, and its origin in the reply
 abbrev pub shape_of_bound : Bound → List ℕ

@@ -1,5 +1,5 @@
-use Rattle.std.proofs.Common.{refl, inr}
-use Rattle.bench_engine.proofs.Words.{format_outcome, accepted_with, format_text, found}
+use Rattle.std.proofs.Common.{◌≡◌, refl, inr, arith}
+use Rattle.bench_engine.proofs.Words.{common_steps, format_outcome, accepted_with, format_text, found}
 use Rattle.bench_engine.proofs.Looks.{not_found}
 use Rattle.bench_engine.proofs.Steps.{spare}
 use Rattle.bench_engine.proofs.ask.format.Goals as goal
@@ -12,8 +12,9 @@ pub returns : goal.returns
 unfolding format_outcome
 returns c =
     let it = found c.args.bench.now.state _ c.in-Some.array c.in-Some.ensures in
-    let any = spare c.args.bench.now.state in (
+    let any = spare c.args.bench.now.state in
+    let told : c.push.new.self ≡ format_text c.in-Some.array.descr.now = grind (arith, common_steps) in (
       any.0,
       any.1,
-      rw (c.in_ok-set_format_text.ensures, it.1) (λ i. accepted_with c.args.bench.now.state (format_text (it.2.descr i))),
+      rw (told, it.1) (λ i. accepted_with c.args.bench.now.state (format_text (it.2.descr i))),
     )

@@ -2,8 +2,9 @@ use Rattle.std.proofs.Common.{◌≡◌, ◌≤◌, ◌⊎◌, ◌&&◌, ◌++�
 use Rattle.bench_engine.proofs.Words.{list_all, list_all-append, err_from_is_err_and, Argument, Descr, IndexItem, Operation, OutOfMemory, Refusal, Shows, State, UnknownName, LeafValue, count, descr_of, find_array, is_bound, max_items, written, found, Array, names_in_index, accepted_with, names_in_argument, new_items, target_part, write_outcome, write_reply, Writing, IsTarget, Meets, GivesGiven, Leaves, Prepares}
 use Rattle.bench_engine.proofs.Answered.{met}
 use Rattle.bench_engine.proofs.Looks.{not_found}
+use Rattle.bench_engine.proofs.TargetLaws.{refused-target, fixed-target, given-target}
 use Rattle.bench_engine.proofs.Views.{refused-or}
-use Rattle.bench_engine.proofs.write.writing_of.Goals.{In_ok-array, In_ok-source, In_ok-target, After-items-count}
+use Rattle.bench_engine.proofs.write.writing_of.Goals.{In_ok-array, In_ok-source, After-items-count}
 use Rattle.bench_engine.proofs.write.writing_of.Goals as goal
 
 -- if the argument is refused, so are the new items
@@ -38,11 +39,11 @@ all-bound c =
     ∙ λ i. (rw c.as_slice-index.ensures at (sym c.if-not-are_bound.ensures)) i && c.in_ok-source.ensures.0 i
 
 -- the part that is written, and the target that leads to it
-aimed : (c : In_ok-target) (a : Array) → find_array c.args.bench.now.state.names c.args.assignment.name.now ≡ Some a → Shows c.args.bench.now.state a c.in_ok-array.array →
+aimed : (c : After-items-count) (a : Array) → find_array c.args.bench.now.state.names c.args.assignment.name.now ≡ Some a → Shows c.args.bench.now.state a c.in_ok-array.array →
     (part : Array) × (target_part c.args.bench.now.state a c.args.assignment.index.now ≡ Ok part) × IsTarget c.args.bench.now.state c.args.assignment.name.now a c.in_ok-target.target part
 aimed c a is shows =
     let s = c.args.bench.now.state in
-    let p = met (IsTarget s c.args.assignment.name.now a) c.in_ok-target.target (target_part s a c.as_slice-index.result.now) (c.in_ok-target.ensures c.args.assignment.name.now a is shows) in
+    let p = met (IsTarget s c.args.assignment.name.now a) c.in_ok-target.target (target_part s a c.as_slice-index.result.now) (given-target s a c.in_ok-array.array shows c.as_slice-index.result.now c.args.assignment.name.now c.in_ok-target.target (omega (arith, c.size-size.ensures)) is (c.in_ok-target.ensures a shows) c.if-not-array.false) in
     (p.0, ap (target_part s a) (sym c.as_slice-index.ensures) ∙ p.1, p.2)
 
 -- the part does not have too many items
@@ -82,8 +83,17 @@ returns-in_err-target c =
     let e = err_from_is_err_and c.from_residual-in_err-target.result c.from_residual-in_err-target.ensures.1 in
     let it = named at.In_ok-array in
     let all = all-bound at.In_ok-source in
-    rw (e.1, e.2) (refused-or _ _ _ (target_part s it.0 c.as_slice-index.result.now) (rw (it.1, all) refl) (c.in_err-target.ensures c.args.assignment.name.now it.0 it.1 it.2)
+    rw (e.1, e.2) (refused-or _ _ _ (target_part s it.0 c.as_slice-index.result.now) (rw (it.1, all) refl) (refused-target s it.0 c.in_ok-array.array it.2 c.as_slice-index.result.now _ (c.in_err-target.ensures it.0 it.2))
     (λ bad choice. rw (it.1, all, ap (target_part s it.0) (sym c.as_slice-index.ensures) ∙ bad) refl))
+
+pub returns-then-not-array : goal.returns-then-not-array
+unfolding write_outcome
+returns-then-not-array c =
+    let s = c.args.bench.now.state in
+    let at = goal.at.returns-then-not-array c in
+    let it = named at.In_ok-array in
+    let fixed = fixed-target s it.0 c.in_ok-array.array it.2 c.as_slice-index.result.now c.in_ok-target.target (c.in_ok-target.ensures it.0 it.2) c.if-not-array.true in
+    inr (λ choice. rw (it.1, all-bound at.In_ok-source, ap (target_part s it.0) (sym c.as_slice-index.ensures) ∙ fixed) refl)
 
 pub returns-in_err-given : goal.returns-in_err-given
 returns-in_err-given c =
@@ -91,7 +101,7 @@ returns-in_err-given c =
     let at = goal.at.returns-in_err-given c in
     let e = err_from_is_err_and c.from_residual-in_err-given.result c.from_residual-in_err-given.ensures.1 in
     let it = named at.In_ok-array in
-    let p = aimed at.In_ok-target it.0 it.1 it.2 in
+    let p = aimed at.After-items-count it.0 it.1 it.2 in
     rw (e.1, e.2) (prepared s c.args.assignment.name.now c.args.assignment.index.now c.args.assignment.operation c.args.assignment.value.now it.0 p.0 it.1 (all-bound at.In_ok-source) p.1 (few at.After-items-count p.0 p.2)
     (Err _) (ungiven s _ p.0 c.args.assignment.operation c.args.assignment.value.now _ c.in_err-given.ensures))
 
@@ -99,7 +109,7 @@ pub new_items-requires : goal.new_items-requires
 new_items-requires c =
     let at = goal.at.new_items-requires c in
     let it = named at.In_ok-array in
-    let p = aimed at.In_ok-target it.0 it.1 it.2 in
+    let p = aimed at.After-items-count it.0 it.1 it.2 in
     (c.args.bench.now.state, c.args.assignment.value.now, c.in_ok-given.ensures, (c.args.assignment.name.now, it.0, p.0, it.2, p.2))
 
 pub returns : goal.returns
@@ -107,7 +117,7 @@ returns c =
     let s = c.args.bench.now.state in
     let at = goal.at.returns c in
     let it = named at.In_ok-array in
-    let p = aimed at.In_ok-target it.0 it.1 it.2 in
+    let p = aimed at.After-items-count it.0 it.1 it.2 in
     prepared s c.args.assignment.name.now c.args.assignment.index.now c.args.assignment.operation c.args.assignment.value.now it.0 p.0 it.1 (all-bound at.In_ok-source) p.1 (few at.After-items-count p.0 p.2) c.new_items.result
     (subst (λ (d : Descr). Meets (Leaves s c.args.assignment.name.now it.0 p.0) c.new_items.result (new_items s d p.0 c.args.assignment.operation c.args.assignment.value.now)) (sym it.2.descr)
     (c.new_items.ensures s c.args.assignment.value.now c.in_ok-given.ensures c.args.assignment.name.now it.0 p.0 it.2 p.2))
