@@ -1,195 +1,114 @@
 -- Literals and ranges as items, worked out by hand and by NumPy.
-use Rattle.std.proofs.Common.{◌≡◌, ◌≢◌, ◌<◌, ℕ, true, false, pos, negsuc, ◌-ℤ◌, [], ◌∷◌, length, map, Ok, Err, codes, refl, sym, ap, arith}
-use Rattle.literal_items.proofs.Words.{int_max, list_all, ints, stepped, IsGap, LiteralOutOfRange, NoSuchCast, TooLarge, ZeroStep, Little, Big, Four, Eight, Byte, Int, Descr, no_more, scalar_field, record_field, encode_item, number, text, is_value, Integer, Boolean, Bytes, no_values, scalar_value, record_value, BoolScalar, BytesScalar, ScalarDescr, RecordDescr, ScalarOf, RecordOf, values_of, item_value, item_values, range_length, range_items}
+use Rattle.std.proofs.Common.{◌≡◌, ◌≢◌, ◌<◌, ℕ, ℤ, true, false, pos, negsuc, ◌-ℤ◌, List, [], ◌∷◌, length, map, Result, Ok, Err, codes, refl, sym, ap, arith}
+use Rattle.elem_descr.specs.BuildingLaws.{record_type}
+use Rattle.literal_items.proofs.Words.{int_max, list_all, ints, stepped, IsGap, LiteralOutOfRange, NoSuchCast, TooLarge, ZeroStep, Little, Big, Four, Eight, Byte, Int, Descr, no_more, scalar_field, record_field, encode_item, number, text, is_value, Integer, Boolean, Bytes, no_values, scalar_value, record_value, BoolScalar, BytesScalar, ScalarDescr, ScalarOf, RecordOf, values_of, item_value, item_values, range_length, range_items, Literal, LeafValue, Refusal, Scalar, ScalarLiteral, Values}
 use Rattle.literal_items.proofs.Stepping.{numbers-divided, count-divided, range_length-large, range_length-ok, range_items-refused, range_items-ok}
+
+abbrev int : Scalar
+int = Int true Four Little
 
 -- T{<b:x:3x<i:y:}
 abbrev pair : Descr
-pair = RecordDescr (record {
-  size = 8;
-  fields = scalar_field (codes "x") 0 (Byte true) (scalar_field (codes "y") 4 (Int true Four Little) no_more);
-})
+pair = record_type 8 (scalar_field (codes "x") 0 (Byte true) (scalar_field (codes "y") 4 int no_more))
 
 -- T{<B:x:2s:t:}
 abbrev mixed : Descr
-mixed = RecordDescr (record {
-  size = 3;
-  fields = scalar_field (codes "x") 0 (Byte false) (scalar_field (codes "t") 1 (BytesScalar 2) no_more);
-})
+mixed = record_type 3 (scalar_field (codes "x") 0 (Byte false) (scalar_field (codes "t") 1 (BytesScalar 2) no_more))
 
 -- T{<b:x:3xT{<i:y:}:s:}
 abbrev nested : Descr
-nested = RecordDescr (record {
-  size = 8;
-  fields = scalar_field (codes "x") 0 (Byte true) (record_field (codes "s") 4 4 (scalar_field (codes "y") 0 (Int true Four Little) no_more) no_more);
-})
+nested = record_type 8 (scalar_field (codes "x") 0 (Byte true) (record_field (codes "s") 4 4 (scalar_field (codes "y") 0 int no_more) no_more))
 
 -- T{<b:x:T{<B:y:}:s:}
 abbrev byte_within : Descr
-byte_within = RecordDescr (record {
-  size = 2;
-  fields = scalar_field (codes "x") 0 (Byte true) (record_field (codes "s") 1 1 (scalar_field (codes "y") 0 (Byte false) no_more) no_more);
-})
+byte_within = record_type 2 (scalar_field (codes "x") 0 (Byte true) (record_field (codes "s") 1 1 (scalar_field (codes "y") 0 (Byte false) no_more) no_more))
 
 -- T{T{<B:y:}:s:2s:t:}
 abbrev text_behind : Descr
-text_behind = RecordDescr (record {
-  size = 3;
-  fields = record_field (codes "s") 0 1 (scalar_field (codes "y") 0 (Byte false) no_more) (scalar_field (codes "t") 1 (BytesScalar 2) no_more);
-})
+text_behind = record_type 3 (record_field (codes "s") 0 1 (scalar_field (codes "y") 0 (Byte false) no_more) (scalar_field (codes "t") 1 (BytesScalar 2) no_more))
 
-cut : item_value (ScalarDescr (BytesScalar 3)) (ScalarOf (Bytes (codes "abcd"))) ≡ Ok (text (codes "abc") ∷ [])
+-- scalars, scalar literals, and the items
+abbrev scalars : List (Scalar × ScalarLiteral × Result (List LeafValue) Refusal)
+scalars =
+    (BytesScalar 3, Bytes (codes "abcd"), Ok (text (codes "abc") ∷ [])) ∷
+    (BytesScalar 4, Bytes (97 ∷ 0 ∷ 98 ∷ 0 ∷ 99 ∷ []), Ok (text (97 ∷ 0 ∷ 98 ∷ []) ∷ [])) ∷  -- b'a\x00b\x00c'
+    (Byte false, Integer (pos 300), Err LiteralOutOfRange) ∷
+    (Int false Eight Little, Integer (pos 18446744073709551616), Err LiteralOutOfRange) ∷
+    (Int true Eight Big, Integer (negsuc 9223372036854775808), Err LiteralOutOfRange) ∷
+    (BoolScalar, Integer (pos 7), Ok (number (pos 1) ∷ [])) ∷
+    (int, Boolean true, Ok (number (pos 1) ∷ [])) ∷
+    (BoolScalar, Boolean false, Ok (number (pos 0) ∷ [])) ∷
+    (int, Bytes (codes "a"), Err NoSuchCast) ∷
+    (BoolScalar, Bytes (codes "a"), Err NoSuchCast) ∷
+    (BytesScalar 2, Integer (pos 1), Err NoSuchCast) ∷
+    (BytesScalar 2, Boolean true, Err NoSuchCast) ∷
+    []
+
+scalar_items : map (λ row. item_value (ScalarDescr row.0) (ScalarOf row.1)) scalars ≡ map (λ row. row.2) scalars
 unfolding item_value
-cut = refl
+scalar_items = refl
 
--- b'a\x00b\x00c' into |S4
-nuls_lost : item_value (ScalarDescr (BytesScalar 4)) (ScalarOf (Bytes (97 ∷ 0 ∷ 98 ∷ 0 ∷ 99 ∷ []))) ≡ Ok (text (97 ∷ 0 ∷ 98 ∷ []) ∷ [])
+-- a number, and the values behind it
+abbrev whole : ℕ → Values → Values
+whole n behind = scalar_value (Integer (pos n)) behind
+
+-- descriptors, literals, and the items
+abbrev records : List (Descr × Literal × Result (List LeafValue) Refusal)
+records =
+    (ScalarDescr (Byte true), RecordOf (whole 5 no_values), Err NoSuchCast) ∷
+    (pair, ScalarOf (Integer (pos 7)), Ok (number (pos 7) ∷ number (pos 7) ∷ [])) ∷
+    (pair, RecordOf (whole 5 (scalar_value (Integer (negsuc 0)) no_values)), Ok (number (pos 5) ∷ number (negsuc 0) ∷ [])) ∷
+    (pair, RecordOf (whole 5 no_values), Err NoSuchCast) ∷
+    (pair, RecordOf (whole 5 (whole 5 (whole 5 no_values))), Err NoSuchCast) ∷
+    -- a value that cannot be cast is refused before one that is out of range
+    (mixed, RecordOf (whole 300 (whole 1 no_values)), Err NoSuchCast) ∷
+    (nested, ScalarOf (Integer (pos 5)), Ok (number (pos 5) ∷ number (pos 5) ∷ [])) ∷
+    (nested, RecordOf (whole 1 (record_value (whole 2 no_values) no_values)), Ok (number (pos 1) ∷ number (pos 2) ∷ [])) ∷  -- (1,(2))
+    (nested, RecordOf (whole 1 (whole 2 no_values)), Err NoSuchCast) ∷  -- (1,2)
+    (nested, RecordOf (record_value (whole 1 no_values) (record_value (whole 2 no_values) no_values)), Err NoSuchCast) ∷  -- ((1),(2))
+    (nested, RecordOf (whole 1 (record_value (whole 2 (whole 3 no_values)) no_values)), Err NoSuchCast) ∷  -- (1,(2,3))
+    (byte_within, RecordOf (whole 1 (record_value (whole 300 no_values) no_values)), Err LiteralOutOfRange) ∷  -- (1,(300))
+    (text_behind, RecordOf (record_value (whole 300 no_values) (whole 1 no_values)), Err NoSuchCast) ∷  -- ((300),1)
+    []
+
+record_items : map (λ row. item_value row.0 row.1) records ≡ map (λ row. row.2) records
 unfolding item_value
-nuls_lost = refl
+record_items = refl
 
-by_position : item_value pair (RecordOf (scalar_value (Integer (pos 5)) (scalar_value (Integer (negsuc 0)) no_values))) ≡ Ok (number (pos 5) ∷ number (negsuc 0) ∷ [])
-unfolding item_value
-by_position = refl
-
-to_each : item_value pair (ScalarOf (Integer (pos 7))) ≡ Ok (number (pos 7) ∷ number (pos 7) ∷ [])
-unfolding item_value
-to_each = refl
-
-too_great : item_value (ScalarDescr (Byte false)) (ScalarOf (Integer (pos 300))) ≡ Err LiteralOutOfRange
-unfolding item_value
-too_great = refl
-
-too_great_for_eight : item_value (ScalarDescr (Int false Eight Little)) (ScalarOf (Integer (pos 18446744073709551616))) ≡ Err LiteralOutOfRange
-unfolding item_value
-too_great_for_eight = refl
-
-too_small_for_eight : item_value (ScalarDescr (Int true Eight Big)) (ScalarOf (Integer (negsuc 9223372036854775808))) ≡ Err LiteralOutOfRange
-unfolding item_value
-too_small_for_eight = refl
-
-any_number_is_true : item_value (ScalarDescr BoolScalar) (ScalarOf (Integer (pos 7))) ≡ Ok (number (pos 1) ∷ [])
-unfolding item_value
-any_number_is_true = refl
-
-true_is_one : item_value (ScalarDescr (Int true Four Little)) (ScalarOf (Boolean true)) ≡ Ok (number (pos 1) ∷ [])
-unfolding item_value
-true_is_one = refl
-
-false_is_zero : item_value (ScalarDescr BoolScalar) (ScalarOf (Boolean false)) ≡ Ok (number (pos 0) ∷ [])
-unfolding item_value
-false_is_zero = refl
-
-bytes_to_a_number : item_value (ScalarDescr (Int true Four Little)) (ScalarOf (Bytes (codes "a"))) ≡ Err NoSuchCast
-unfolding item_value
-bytes_to_a_number = refl
-
-bytes_to_a_bool : item_value (ScalarDescr BoolScalar) (ScalarOf (Bytes (codes "a"))) ≡ Err NoSuchCast
-unfolding item_value
-bytes_to_a_bool = refl
-
-number_to_bytes : item_value (ScalarDescr (BytesScalar 2)) (ScalarOf (Integer (pos 1))) ≡ Err NoSuchCast
-unfolding item_value
-number_to_bytes = refl
-
-bool_to_bytes : item_value (ScalarDescr (BytesScalar 2)) (ScalarOf (Boolean true)) ≡ Err NoSuchCast
-unfolding item_value
-bool_to_bytes = refl
-
-record_to_a_scalar : item_value (ScalarDescr (Byte true)) (RecordOf (scalar_value (Integer (pos 5)) no_values)) ≡ Err NoSuchCast
-unfolding item_value
-record_to_a_scalar = refl
-
-one_value_short : item_value pair (RecordOf (scalar_value (Integer (pos 5)) no_values)) ≡ Err NoSuchCast
-unfolding item_value
-one_value_short = refl
-
-one_value_too_many : item_value pair (RecordOf (scalar_value (Integer (pos 5)) (scalar_value (Integer (pos 5)) (scalar_value (Integer (pos 5)) no_values)))) ≡ Err NoSuchCast
-unfolding item_value
-one_value_too_many = refl
-
--- a value that cannot be cast is refused before one that is out of range
-cast_first : item_value mixed (RecordOf (scalar_value (Integer (pos 300)) (scalar_value (Integer (pos 1)) no_values))) ≡ Err NoSuchCast
-unfolding item_value
-cast_first = refl
-
--- (1,(2))
-level_by_level : item_value nested (RecordOf (scalar_value (Integer (pos 1)) (record_value (scalar_value (Integer (pos 2)) no_values) no_values))) ≡ Ok (number (pos 1) ∷ number (pos 2) ∷ [])
-unfolding item_value
-level_by_level = refl
-
-level_by_level_bytes : encode_item nested (values_of nested (RecordOf (scalar_value (Integer (pos 1)) (record_value (scalar_value (Integer (pos 2)) no_values) no_values)))) ≡ 1 ∷ 0 ∷ 0 ∷ 0 ∷ 2 ∷ 0 ∷ 0 ∷ 0 ∷ []
+level_by_level_bytes : encode_item nested (values_of nested (RecordOf (whole 1 (record_value (whole 2 no_values) no_values)))) ≡ 1 ∷ 0 ∷ 0 ∷ 0 ∷ 2 ∷ 0 ∷ 0 ∷ 0 ∷ []
 level_by_level_bytes = refl
 
--- 5
-to_each_leaf : item_value nested (ScalarOf (Integer (pos 5))) ≡ Ok (number (pos 5) ∷ number (pos 5) ∷ [])
-unfolding item_value
-to_each_leaf = refl
+-- scalar literals as items of |u1
+abbrev lists : List (List ScalarLiteral × Result (List (List LeafValue)) Refusal)
+lists =
+    (Integer (pos 300) ∷ Bytes (codes "a") ∷ [], Err NoSuchCast) ∷
+    (Integer (pos 3) ∷ Integer (negsuc 0) ∷ [], Err LiteralOutOfRange) ∷
+    (Integer (pos 3) ∷ Boolean true ∷ [], Ok ((number (pos 3) ∷ []) ∷ (number (pos 1) ∷ []) ∷ [])) ∷
+    []
 
--- (1,2)
-scalar_to_a_record_within : item_value nested (RecordOf (scalar_value (Integer (pos 1)) (scalar_value (Integer (pos 2)) no_values))) ≡ Err NoSuchCast
-unfolding item_value
-scalar_to_a_record_within = refl
-
--- ((1),(2))
-record_to_a_scalar_within : item_value nested (RecordOf (record_value (scalar_value (Integer (pos 1)) no_values) (record_value (scalar_value (Integer (pos 2)) no_values) no_values))) ≡ Err NoSuchCast
-unfolding item_value
-record_to_a_scalar_within = refl
-
--- (1,(2,3))
-one_value_too_many_within : item_value nested (RecordOf (scalar_value (Integer (pos 1)) (record_value (scalar_value (Integer (pos 2)) (scalar_value (Integer (pos 3)) no_values)) no_values))) ≡ Err NoSuchCast
-unfolding item_value
-one_value_too_many_within = refl
-
--- (1,(300))
-too_great_within : item_value byte_within (RecordOf (scalar_value (Integer (pos 1)) (record_value (scalar_value (Integer (pos 300)) no_values) no_values))) ≡ Err LiteralOutOfRange
-unfolding item_value
-too_great_within = refl
-
--- ((300),1)
-cast_first_at_all_levels : item_value text_behind (RecordOf (record_value (scalar_value (Integer (pos 300)) no_values) (scalar_value (Integer (pos 1)) no_values))) ≡ Err NoSuchCast
-unfolding item_value
-cast_first_at_all_levels = refl
-
-cast_first_of_all : item_values (ScalarDescr (Byte false)) (ScalarOf (Integer (pos 300)) ∷ ScalarOf (Bytes (codes "a")) ∷ []) ≡ Err NoSuchCast
+list_items : map (λ row. item_values (ScalarDescr (Byte false)) (map ScalarOf row.0)) lists ≡ map (λ row. row.1) lists
 unfolding item_values
-cast_first_of_all = refl
+list_items = refl
 
-one_out_of_range : item_values (ScalarDescr (Byte false)) (ScalarOf (Integer (pos 3)) ∷ ScalarOf (Integer (negsuc 0)) ∷ []) ≡ Err LiteralOutOfRange
-unfolding item_values
-one_out_of_range = refl
+-- the items of these numbers
+abbrev items_of : List ℕ → Result (List (List LeafValue)) Refusal
+items_of numbers = Ok (map (λ n. number (pos n) ∷ []) numbers)
 
-many : item_values (ScalarDescr (Byte false)) (ScalarOf (Integer (pos 3)) ∷ ScalarOf (Boolean true) ∷ []) ≡ Ok ((number (pos 3) ∷ []) ∷ (number (pos 1) ∷ []) ∷ [])
-unfolding item_values
-many = refl
+-- numpy.arange: a scalar, start, stop and step, and the items
+abbrev ranges : List (Scalar × ℤ × ℤ × ℤ × Result (List (List LeafValue)) Refusal)
+ranges =
+    (Byte true, pos 0, pos 201, pos 100, Err LiteralOutOfRange) ∷
+    (Byte true, pos 0, pos 200, pos 100, items_of (0 ∷ 100 ∷ [])) ∷
+    (int, pos 0, pos 5, pos 1, items_of (0 ∷ 1 ∷ 2 ∷ 3 ∷ 4 ∷ [])) ∷
+    (int, pos 5, pos 0, negsuc 1, items_of (5 ∷ 3 ∷ 1 ∷ [])) ∷
+    (int, pos 3, pos 3, pos 1, items_of []) ∷
+    (int, pos 0, pos 5, negsuc 0, items_of []) ∷
+    (int, pos 0, pos 5, pos 0, Err ZeroStep) ∷
+    []
 
--- numpy.arange
-signed_byte_passed : range_items (Byte true) (pos 0) (pos 201) (pos 100) ≡ Err LiteralOutOfRange
+range_rows : map (λ row. range_items row.0 row.1 row.2 row.3) ranges ≡ map (λ row. row.4) ranges
 unfolding range_items range_length stepped
-signed_byte_passed = refl
-
-signed_byte : range_items (Byte true) (pos 0) (pos 200) (pos 100) ≡ Ok ((number (pos 0) ∷ []) ∷ (number (pos 100) ∷ []) ∷ [])
-unfolding range_items range_length stepped
-signed_byte = refl
-
-five : range_items (Int true Four Little) (pos 0) (pos 5) (pos 1) ≡ Ok ((number (pos 0) ∷ []) ∷ (number (pos 1) ∷ []) ∷ (number (pos 2) ∷ []) ∷ (number (pos 3) ∷ []) ∷ (number (pos 4) ∷ []) ∷ [])
-unfolding range_items range_length stepped
-five = refl
-
-backwards : range_items (Int true Four Little) (pos 5) (pos 0) (negsuc 1) ≡ Ok ((number (pos 5) ∷ []) ∷ (number (pos 3) ∷ []) ∷ (number (pos 1) ∷ []) ∷ [])
-unfolding range_items range_length stepped
-backwards = refl
-
-none : range_items (Int true Four Little) (pos 3) (pos 3) (pos 1) ≡ Ok []
-unfolding range_items range_length stepped
-none = refl
-
-away : range_items (Int true Four Little) (pos 0) (pos 5) (negsuc 0) ≡ Ok []
-unfolding range_items range_length stepped
-away = refl
-
-no_step : range_items (Int true Four Little) (pos 0) (pos 5) (pos 0) ≡ Err ZeroStep
-unfolding range_items range_length stepped
-no_step = refl
+range_rows = refl
 
 -- ranges with too many numbers to list, by the quotient
 
