@@ -35,102 +35,69 @@ s3 = Bytes 3
 abbrev types : List Scalar
 types = b1 ∷ i1 ∷ u1 ∷ i2 ∷ u2 ∷ i4 ∷ u4 ∷ i8 ∷ u8 ∷ []
 
-abbrev row : BinOp → Scalar → List (Result Scalar Refusal)
-row op left = map (λ right. promote op left right) types
+abbrev refused : Result Scalar Refusal
+refused = Err NotForThisKind
+
+abbrev float : Result Scalar Refusal
+float = Err NeedsFloats
 
 -- np.promote_types of every pair, unless it is a float
-
-b1_row : row Multiply b1 ≡ Ok b1 ∷ Ok i1 ∷ Ok u1 ∷ Ok i2 ∷ Ok u2 ∷ Ok i4 ∷ Ok u4 ∷ Ok i8 ∷ Ok u8 ∷ []
+promoted : map (λ left. map (promote Multiply left) types) types ≡
+    (Ok b1 ∷ Ok i1 ∷ Ok u1 ∷ Ok i2 ∷ Ok u2 ∷ Ok i4 ∷ Ok u4 ∷ Ok i8 ∷ Ok u8 ∷ []) ∷
+    (Ok i1 ∷ Ok i1 ∷ Ok i2 ∷ Ok i2 ∷ Ok i4 ∷ Ok i4 ∷ Ok i8 ∷ Ok i8 ∷ float ∷ []) ∷
+    (Ok u1 ∷ Ok i2 ∷ Ok u1 ∷ Ok i2 ∷ Ok u2 ∷ Ok i4 ∷ Ok u4 ∷ Ok i8 ∷ Ok u8 ∷ []) ∷
+    (Ok i2 ∷ Ok i2 ∷ Ok i2 ∷ Ok i2 ∷ Ok i4 ∷ Ok i4 ∷ Ok i8 ∷ Ok i8 ∷ float ∷ []) ∷
+    (Ok u2 ∷ Ok i4 ∷ Ok u2 ∷ Ok i4 ∷ Ok u2 ∷ Ok i4 ∷ Ok u4 ∷ Ok i8 ∷ Ok u8 ∷ []) ∷
+    (Ok i4 ∷ Ok i4 ∷ Ok i4 ∷ Ok i4 ∷ Ok i4 ∷ Ok i4 ∷ Ok i8 ∷ Ok i8 ∷ float ∷ []) ∷
+    (Ok u4 ∷ Ok i8 ∷ Ok u4 ∷ Ok i8 ∷ Ok u4 ∷ Ok i8 ∷ Ok u4 ∷ Ok i8 ∷ Ok u8 ∷ []) ∷
+    (Ok i8 ∷ Ok i8 ∷ Ok i8 ∷ Ok i8 ∷ Ok i8 ∷ Ok i8 ∷ Ok i8 ∷ Ok i8 ∷ float ∷ []) ∷
+    (Ok u8 ∷ float ∷ Ok u8 ∷ float ∷ Ok u8 ∷ float ∷ Ok u8 ∷ float ∷ Ok u8 ∷ []) ∷
+    []
 unfolding promote
-b1_row = refl
-
-i1_row : row Multiply i1 ≡ Ok i1 ∷ Ok i1 ∷ Ok i2 ∷ Ok i2 ∷ Ok i4 ∷ Ok i4 ∷ Ok i8 ∷ Ok i8 ∷ Err NeedsFloats ∷ []
-unfolding promote
-i1_row = refl
-
-u1_row : row Multiply u1 ≡ Ok u1 ∷ Ok i2 ∷ Ok u1 ∷ Ok i2 ∷ Ok u2 ∷ Ok i4 ∷ Ok u4 ∷ Ok i8 ∷ Ok u8 ∷ []
-unfolding promote
-u1_row = refl
-
-i2_row : row Multiply i2 ≡ Ok i2 ∷ Ok i2 ∷ Ok i2 ∷ Ok i2 ∷ Ok i4 ∷ Ok i4 ∷ Ok i8 ∷ Ok i8 ∷ Err NeedsFloats ∷ []
-unfolding promote
-i2_row = refl
-
-u2_row : row Multiply u2 ≡ Ok u2 ∷ Ok i4 ∷ Ok u2 ∷ Ok i4 ∷ Ok u2 ∷ Ok i4 ∷ Ok u4 ∷ Ok i8 ∷ Ok u8 ∷ []
-unfolding promote
-u2_row = refl
-
-i4_row : row Multiply i4 ≡ Ok i4 ∷ Ok i4 ∷ Ok i4 ∷ Ok i4 ∷ Ok i4 ∷ Ok i4 ∷ Ok i8 ∷ Ok i8 ∷ Err NeedsFloats ∷ []
-unfolding promote
-i4_row = refl
-
-u4_row : row Multiply u4 ≡ Ok u4 ∷ Ok i8 ∷ Ok u4 ∷ Ok i8 ∷ Ok u4 ∷ Ok i8 ∷ Ok u4 ∷ Ok i8 ∷ Ok u8 ∷ []
-unfolding promote
-u4_row = refl
-
-i8_row : row Multiply i8 ≡ Ok i8 ∷ Ok i8 ∷ Ok i8 ∷ Ok i8 ∷ Ok i8 ∷ Ok i8 ∷ Ok i8 ∷ Ok i8 ∷ Err NeedsFloats ∷ []
-unfolding promote
-i8_row = refl
-
-u8_row : row Multiply u8 ≡ Ok u8 ∷ Err NeedsFloats ∷ Ok u8 ∷ Err NeedsFloats ∷ Ok u8 ∷ Err NeedsFloats ∷ Ok u8 ∷ Err NeedsFloats ∷ Ok u8 ∷ []
-unfolding promote
-u8_row = refl
-
--- for two bools
+promoted = refl
 
 abbrev words : List BinOp
 words = Add ∷ Subtract ∷ Multiply ∷ FloorDivide ∷ Modulo ∷ And ∷ Or ∷ Xor ∷ ShiftLeft ∷ ShiftRight ∷ Divide ∷ []
 
-of_bools : map (λ op. promote op b1 b1) words ≡ Ok b1 ∷ Err NotForThisKind ∷ Ok b1 ∷ Err NotForThisKind ∷ Err NotForThisKind ∷ Ok b1 ∷ Ok b1 ∷ Ok b1 ∷ Err NotForThisKind ∷ Err NotForThisKind ∷ Err NeedsFloats ∷ []
-unfolding promote
-of_bools = refl
+-- two types, and the result of each word. Byte strings cannot be operands of any operation.
+abbrev pairs : List (Scalar × Scalar × List (Result Scalar Refusal))
+pairs =
+    (b1, b1, Ok b1 ∷ refused ∷ Ok b1 ∷ refused ∷ refused ∷ Ok b1 ∷ Ok b1 ∷ Ok b1 ∷ refused ∷ refused ∷ float ∷ []) ∷
+    (i4, u1, Ok i4 ∷ Ok i4 ∷ Ok i4 ∷ Ok i4 ∷ Ok i4 ∷ Ok i4 ∷ Ok i4 ∷ Ok i4 ∷ Ok i4 ∷ Ok i4 ∷ float ∷ []) ∷
+    (b1, i2, Ok i2 ∷ Ok i2 ∷ Ok i2 ∷ Ok i2 ∷ Ok i2 ∷ Ok i2 ∷ Ok i2 ∷ Ok i2 ∷ Ok i2 ∷ Ok i2 ∷ float ∷ []) ∷
+    (s3, s3, refused ∷ refused ∷ refused ∷ refused ∷ refused ∷ refused ∷ refused ∷ refused ∷ refused ∷ refused ∷ refused ∷ []) ∷
+    []
 
--- for integers
-of_integers : map (λ op. promote op i4 u1) words ≡ Ok i4 ∷ Ok i4 ∷ Ok i4 ∷ Ok i4 ∷ Ok i4 ∷ Ok i4 ∷ Ok i4 ∷ Ok i4 ∷ Ok i4 ∷ Ok i4 ∷ Err NeedsFloats ∷ []
+by_word : map (λ row. map (λ op. promote op row.0 row.1) words) pairs ≡ map (λ row. row.2) pairs
 unfolding promote
-of_integers = refl
+by_word = refl
 
--- for a bool and an integer
-mixed_with_bool : map (λ op. promote op b1 i2) words ≡ Ok i2 ∷ Ok i2 ∷ Ok i2 ∷ Ok i2 ∷ Ok i2 ∷ Ok i2 ∷ Ok i2 ∷ Ok i2 ∷ Ok i2 ∷ Ok i2 ∷ Err NeedsFloats ∷ []
-unfolding promote
-mixed_with_bool = refl
+-- an operation, two types, and the type of the result, which is little-endian
+abbrev single : List (BinOp × Scalar × Scalar × Result Scalar Refusal)
+single =
+    (Add, s3, i4, refused) ∷
+    (Divide, i4, s3, refused) ∷
+    (Add, Int true Four Big, Int true Four Big, Ok i4) ∷
+    (Add, Int false Two Big, b1, Ok u2) ∷
+    []
 
--- byte strings cannot be operands of any operation
-of_texts : map (λ op. promote op s3 s3) words ≡ Err NotForThisKind ∷ Err NotForThisKind ∷ Err NotForThisKind ∷ Err NotForThisKind ∷ Err NotForThisKind ∷ Err NotForThisKind ∷ Err NotForThisKind ∷ Err NotForThisKind ∷ Err NotForThisKind ∷ Err NotForThisKind ∷ Err NotForThisKind ∷ []
+singles : map (λ row. promote row.0 row.1 row.2) single ≡ map (λ row. row.3) single
 unfolding promote
-of_texts = refl
-
-text_and_number : promote Add s3 i4 ≡ Err NotForThisKind
-unfolding promote
-text_and_number = refl
-
-number_and_text : promote Divide i4 s3 ≡ Err NotForThisKind
-unfolding promote
-number_and_text = refl
-
--- results are little-endian
-big : promote Add (Int true Four Big) (Int true Four Big) ≡ Ok i4
-unfolding promote
-big = refl
-
-big_and_bool : promote Add (Int false Two Big) b1 ≡ Ok u2
-unfolding promote
-big_and_bool = refl
+singles = refl
 
 -- with an integer literal: np.array([1], 'u1') + 1 is u1, np.array([True]) + 1 is i8
 literals : map literal_type types ≡ i8 ∷ i1 ∷ u1 ∷ i2 ∷ u2 ∷ i4 ∷ u4 ∷ i8 ∷ u8 ∷ []
 literals = refl
 
 -- np.negative and np.invert
-negated : map (promote_one Negate) types ≡ Err NotForThisKind ∷ Ok i1 ∷ Ok u1 ∷ Ok i2 ∷ Ok u2 ∷ Ok i4 ∷ Ok u4 ∷ Ok i8 ∷ Ok u8 ∷ []
+unary : map (λ op. map (promote_one op) types) (Negate ∷ Invert ∷ []) ≡
+    (refused ∷ Ok i1 ∷ Ok u1 ∷ Ok i2 ∷ Ok u2 ∷ Ok i4 ∷ Ok u4 ∷ Ok i8 ∷ Ok u8 ∷ []) ∷
+    (Ok b1 ∷ Ok i1 ∷ Ok u1 ∷ Ok i2 ∷ Ok u2 ∷ Ok i4 ∷ Ok u4 ∷ Ok i8 ∷ Ok u8 ∷ []) ∷
+    []
 unfolding promote_one
-negated = refl
+unary = refl
 
-inverted : map (promote_one Invert) types ≡ Ok b1 ∷ Ok i1 ∷ Ok u1 ∷ Ok i2 ∷ Ok u2 ∷ Ok i4 ∷ Ok u4 ∷ Ok i8 ∷ Ok u8 ∷ []
-unfolding promote_one
-inverted = refl
-
-no_text : promote_one Invert s3 ≡ Err NotForThisKind
+no_text : promote_one Invert s3 ≡ refused
 unfolding promote_one
 no_text = refl
 
@@ -139,59 +106,34 @@ compared_with_u8 : map (compared_type u8) types ≡ map (λ _. Ok b1) types
 unfolding compared_type
 compared_with_u8 = refl
 
-compared_texts : compared_type s3 (Bytes 1) ≡ Ok b1
+abbrev compared : List (Scalar × Scalar × Result Scalar Refusal)
+compared = (s3, Bytes 1, Ok b1) ∷ (s3, u1, refused) ∷ (b1, s3, refused) ∷ []
+
+compared_texts : map (λ row. compared_type row.0 row.1) compared ≡ map (λ row. row.2) compared
 unfolding compared_type
 compared_texts = refl
 
-text_with_number : compared_type s3 u1 ≡ Err NotForThisKind
-unfolding compared_type
-text_with_number = refl
+abbrev can : Result (Unit {0}) Refusal
+can = Ok tt
 
-number_with_text : compared_type b1 s3 ≡ Err NotForThisKind
-unfolding compared_type
-number_with_text = refl
+abbrev cannot : Result (Unit {0}) Refusal
+cannot = Err NotSameKind
 
 -- np.can_cast(a, b, 'same_kind') for numbers: signed integers cannot be written to unsigned ones, nor integers to bools
-
-abbrev kinds : Scalar → List (Result (Unit {0}) Refusal)
-kinds from = map (same_kind from) types
-
-b1_kinds : kinds b1 ≡ Ok tt ∷ Ok tt ∷ Ok tt ∷ Ok tt ∷ Ok tt ∷ Ok tt ∷ Ok tt ∷ Ok tt ∷ Ok tt ∷ []
+same_kinds : map (λ from. map (same_kind from) types) types ≡
+    (can ∷ can ∷ can ∷ can ∷ can ∷ can ∷ can ∷ can ∷ can ∷ []) ∷
+    (cannot ∷ can ∷ cannot ∷ can ∷ cannot ∷ can ∷ cannot ∷ can ∷ cannot ∷ []) ∷
+    (cannot ∷ can ∷ can ∷ can ∷ can ∷ can ∷ can ∷ can ∷ can ∷ []) ∷
+    (cannot ∷ can ∷ cannot ∷ can ∷ cannot ∷ can ∷ cannot ∷ can ∷ cannot ∷ []) ∷
+    (cannot ∷ can ∷ can ∷ can ∷ can ∷ can ∷ can ∷ can ∷ can ∷ []) ∷
+    (cannot ∷ can ∷ cannot ∷ can ∷ cannot ∷ can ∷ cannot ∷ can ∷ cannot ∷ []) ∷
+    (cannot ∷ can ∷ can ∷ can ∷ can ∷ can ∷ can ∷ can ∷ can ∷ []) ∷
+    (cannot ∷ can ∷ cannot ∷ can ∷ cannot ∷ can ∷ cannot ∷ can ∷ cannot ∷ []) ∷
+    (cannot ∷ can ∷ can ∷ can ∷ can ∷ can ∷ can ∷ can ∷ can ∷ []) ∷
+    []
 unfolding same_kind
-b1_kinds = refl
+same_kinds = refl
 
-i1_kinds : kinds i1 ≡ Err NotSameKind ∷ Ok tt ∷ Err NotSameKind ∷ Ok tt ∷ Err NotSameKind ∷ Ok tt ∷ Err NotSameKind ∷ Ok tt ∷ Err NotSameKind ∷ []
-unfolding same_kind
-i1_kinds = refl
-
-u1_kinds : kinds u1 ≡ Err NotSameKind ∷ Ok tt ∷ Ok tt ∷ Ok tt ∷ Ok tt ∷ Ok tt ∷ Ok tt ∷ Ok tt ∷ Ok tt ∷ []
-unfolding same_kind
-u1_kinds = refl
-
-i2_kinds : kinds i2 ≡ Err NotSameKind ∷ Ok tt ∷ Err NotSameKind ∷ Ok tt ∷ Err NotSameKind ∷ Ok tt ∷ Err NotSameKind ∷ Ok tt ∷ Err NotSameKind ∷ []
-unfolding same_kind
-i2_kinds = refl
-
-u2_kinds : kinds u2 ≡ Err NotSameKind ∷ Ok tt ∷ Ok tt ∷ Ok tt ∷ Ok tt ∷ Ok tt ∷ Ok tt ∷ Ok tt ∷ Ok tt ∷ []
-unfolding same_kind
-u2_kinds = refl
-
-i4_kinds : kinds i4 ≡ Err NotSameKind ∷ Ok tt ∷ Err NotSameKind ∷ Ok tt ∷ Err NotSameKind ∷ Ok tt ∷ Err NotSameKind ∷ Ok tt ∷ Err NotSameKind ∷ []
-unfolding same_kind
-i4_kinds = refl
-
-u4_kinds : kinds u4 ≡ Err NotSameKind ∷ Ok tt ∷ Ok tt ∷ Ok tt ∷ Ok tt ∷ Ok tt ∷ Ok tt ∷ Ok tt ∷ Ok tt ∷ []
-unfolding same_kind
-u4_kinds = refl
-
-i8_kinds : kinds i8 ≡ Err NotSameKind ∷ Ok tt ∷ Err NotSameKind ∷ Ok tt ∷ Err NotSameKind ∷ Ok tt ∷ Err NotSameKind ∷ Ok tt ∷ Err NotSameKind ∷ []
-unfolding same_kind
-i8_kinds = refl
-
-u8_kinds : kinds u8 ≡ Err NotSameKind ∷ Ok tt ∷ Ok tt ∷ Ok tt ∷ Ok tt ∷ Ok tt ∷ Ok tt ∷ Ok tt ∷ Ok tt ∷ []
-unfolding same_kind
-u8_kinds = refl
-
-to_text : same_kind b1 s3 ≡ Err NotSameKind
+to_text : same_kind b1 s3 ≡ cannot
 unfolding same_kind
 to_text = refl
