@@ -1,6 +1,6 @@
 -- Record literals, worked out by hand.
-use Rattle.std.proofs.Common.{◌≡◌, ℕ, pos, true, [], ◌∷◌, Some, None, codes, refl}
-use Rattle.script_lang.proofs.Words.{ScalarLiteral, Integer, Boolean, Bytes, Scalar, Record, Values, no_values, scalar_value, record_value, value_count, all_values, literals_of, word_at, number_at, integer_at, is_parted, bytes_mark_at, by_rule, in_turns, entry_first, comma_next, one_or_more, none_or_more, row, text_byte_at, byte_text_at, boolean_at, bytes_at, scalar_at, record_at, literal_within, literal_at}
+use Rattle.std.proofs.Common.{◌≡◌, ℕ, pos, true, List, [], ◌∷◌, map, Option, Some, None, codes, refl}
+use Rattle.script_lang.proofs.Words.{ScalarLiteral, Integer, Boolean, Bytes, Literal, Scalar, Record, Values, no_values, scalar_value, record_value, value_count, all_values, literals_of, word_at, number_at, integer_at, is_parted, bytes_mark_at, by_rule, in_turns, entry_first, comma_next, one_or_more, none_or_more, row, text_byte_at, byte_text_at, boolean_at, bytes_at, scalar_at, record_at, literal_within, literal_at}
 
 abbrev number : ℕ → ScalarLiteral
 number n = Integer (pos n)
@@ -12,49 +12,25 @@ just n = scalar_value (number n) no_values
 abbrev before : ℕ → Values → Values
 before n inner = scalar_value (number n) (record_value inner no_values)
 
-depth_1 : literal_at (codes "(1)") ≡ Some (Record (just 1), [])
-unfolding literal_at literal_within record_at by_rule in_turns entry_first comma_next one_or_more none_or_more scalar_at integer_at number_at is_parted bytes_mark_at
-depth_1 = refl
+-- a text, and the literal that begins it with what follows
+abbrev literals : List (List ℕ × Option (Literal × List ℕ))
+literals =
+    (codes "(1)", Some (Record (just 1), [])) ∷
+    (codes "(1,(2))", Some (Record (before 1 (just 2)), [])) ∷
+    (codes "(1,(2,(3,(4))))", Some (Record (before 1 (before 2 (before 3 (just 4)))), [])) ∷
+    (codes "(1,(2,(3,(4,(5)))))", None) ∷
+    (codes "(((((1)))))", None) ∷
+    (codes "(1,(2,),) 3", Some (Record (before 1 (just 2)), codes " 3")) ∷
+    (codes "((1, 2), b'x')", Some (Record (record_value (scalar_value (number 1) (just 2)) (scalar_value (Bytes (codes "x")) no_values)), [])) ∷
+    (codes "()", None) ∷
+    (codes "(1,())", None) ∷
+    (codes "(1,(2)", None) ∷
+    (codes "((1)(2))", None) ∷
+    []
 
-depth_2 : literal_at (codes "(1,(2))") ≡ Some (Record (before 1 (just 2)), [])
-unfolding literal_at literal_within record_at by_rule in_turns entry_first comma_next one_or_more none_or_more scalar_at integer_at number_at is_parted bytes_mark_at
-depth_2 = refl
-
-depth_4 : literal_at (codes "(1,(2,(3,(4))))") ≡ Some (Record (before 1 (before 2 (before 3 (just 4)))), [])
-unfolding literal_at literal_within record_at by_rule in_turns entry_first comma_next one_or_more none_or_more scalar_at integer_at number_at is_parted bytes_mark_at
-depth_4 = refl
-
-depth_5 : literal_at (codes "(1,(2,(3,(4,(5)))))") ≡ None
-unfolding literal_at literal_within record_at by_rule in_turns entry_first comma_next one_or_more none_or_more scalar_at integer_at number_at is_parted bytes_mark_at boolean_at word_at
-depth_5 = refl
-
-nothing_but_depth : literal_at (codes "(((((1)))))") ≡ None
-unfolding literal_at literal_within record_at by_rule in_turns entry_first comma_next one_or_more none_or_more scalar_at integer_at number_at is_parted bytes_mark_at boolean_at word_at
-nothing_but_depth = refl
-
-last_commas : literal_at (codes "(1,(2,),) 3") ≡ Some (Record (before 1 (just 2)), codes " 3")
-unfolding literal_at literal_within record_at by_rule in_turns entry_first comma_next one_or_more none_or_more scalar_at integer_at number_at is_parted bytes_mark_at
-last_commas = refl
-
-record_first : literal_at (codes "((1, 2), b'x')") ≡ Some (Record (record_value (scalar_value (number 1) (just 2)) (scalar_value (Bytes (codes "x")) no_values)), [])
-unfolding literal_at literal_within record_at by_rule in_turns entry_first comma_next one_or_more none_or_more scalar_at integer_at number_at is_parted bytes_mark_at bytes_at byte_text_at row text_byte_at
-record_first = refl
-
-empty : literal_at (codes "()") ≡ None
-unfolding literal_at literal_within record_at by_rule in_turns entry_first comma_next one_or_more none_or_more
-empty = refl
-
-empty_inside : literal_at (codes "(1,())") ≡ None
-unfolding literal_at literal_within record_at by_rule in_turns entry_first comma_next one_or_more none_or_more scalar_at integer_at number_at is_parted bytes_mark_at
-empty_inside = refl
-
-unclosed : literal_at (codes "(1,(2)") ≡ None
-unfolding literal_at literal_within record_at by_rule in_turns entry_first comma_next one_or_more none_or_more scalar_at integer_at number_at is_parted bytes_mark_at
-unclosed = refl
-
-no_comma : literal_at (codes "((1)(2))") ≡ None
-unfolding literal_at literal_within record_at by_rule in_turns entry_first comma_next one_or_more none_or_more scalar_at integer_at number_at is_parted bytes_mark_at
-no_comma = refl
+literals_hold : map (λ entry. literal_at entry.0) literals ≡ map (λ entry. entry.1) literals
+unfolding literal_at literal_within record_at by_rule in_turns entry_first comma_next one_or_more none_or_more scalar_at integer_at number_at is_parted bytes_mark_at boolean_at word_at bytes_at byte_text_at row text_byte_at
+literals_hold = refl
 
 -- (1, (2, (3)), True)
 abbrev nested : Values
