@@ -37,9 +37,12 @@ pub record Partial : Type 0 where
   pub levels : ℕ
   pub fields : List Field
 
+abbrev pub built : ℕ → ℕ → ℕ → ℕ → List Field → Partial
+built size alignment leaves levels fields = record { size = size; alignment = alignment; leaves = leaves; levels = levels; fields = fields }
+
 -- a record before its first field
 abbrev pub empty : ℕ → ℕ → Partial
-empty levels leaves = record { size = 0; alignment = 1; leaves = leaves; levels = levels; fields = [] }
+empty levels leaves = built 0 1 leaves levels []
 
 abbrev pub is_taken : List Field → List ℕ → Bool
 is_taken fields name = list_any (λ field. bytes_eq field.name name) fields

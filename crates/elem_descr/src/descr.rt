@@ -2,7 +2,7 @@
 ghost use Rattle.elem_descr.specs.Descriptors.{IsLegal, fields_of, listed};
 ghost use Rattle.elem_descr.specs.Encoding.{size};
 ghost use Rattle.elem_descr.specs.Fields.{Structure, no_more};
-ghost use Rattle.elem_descr.specs.Items.{AreInOrder, LeavesInOrder, field_at, field_leaves, field_of, fields, item_size, leaves_from, leaves_in, leaves_of, moved_leaf};
+ghost use Rattle.elem_descr.specs.Items.{AreInOrder, LeavesInOrder, field_at, field_of, fields, item_size, leaves_from, leaves_of, moved_leaf};
 ghost use Rattle.std.specs.Prelude.{IfOk, IfSome, OnOk, [], length, map, position, slice_get, take, ℕ, ◌++◌, ◌+◌, ◌<◌, ◌∷◌, ◌≡◌, ◌≤◌};
 ghost use Rattle.std.proofs.Common.{drop, get_or};
 
@@ -94,57 +94,6 @@ fn push_field(leaves: &mut Vec<Leaf>, field: &Field) -> Result<(), AllocError>
     Ok(())
 }
 
-/// The leaves of the fields.
-fn leaves_in(alloc: Global, fields: &[Field], size: usize) -> Result<Vec<Leaf>, AllocError>
-    requires legal { IsLegal (record { size = size; fields = listed fields.now }) }
-    ensures { IfOk result (λ leaves. leaves.items ≡ leaves_from 0 (listed fields.now)) }
-{
-    let mut leaves = Vec::new(alloc);
-    for field in fields {
-        push_field(&mut leaves, field)?;
-    }
-    Ok(leaves)
-}
-
-/// A copy of the fields.
-#[cycle(copy)]
-fn copied(alloc: Global, fields: &[Field]) -> Result<Vec<Field>, AllocError>
-    ensures { IfOk result (λ copies. copies.items ≡ fields.now) }
-{
-    let mut copies = Vec::new(alloc);
-    for field in fields {
-        copies.push(Field::try_copy(alloc, field)?)?;
-    }
-    Ok(copies)
-}
-
-/// The number of leaves of fields.
-fn leaf_sum(fields: &[Field]) -> usize
-    requires { leaves_in fields.now ≤ 2048 }
-    ensures { result ≡ leaves_in fields.now }
-{
-    let mut sum = 0;
-    for field in fields {
-        sum += field.descr.leaf_count();
-    }
-    sum
-}
-
-impl Field {
-    #[cycle(copy)]
-    pub fn try_copy(alloc: Global, field: &Field) -> Result<Field, AllocError>
-        ensures { IfOk result (λ copy. copy ≡ field.now) }
-    {
-        let name = FieldName::from_slice(alloc, field.name.as_slice())?;
-        let descr = Descr::try_copy(alloc, &field.descr)?;
-        Ok(Field {
-            name,
-            at: field.at,
-            descr,
-        })
-    }
-}
-
 impl Record {
     /// A record of these fields, whose items have `size` bytes.
     pub fn try_new(alloc: Global, size: usize, fields: Vec<Field>) -> Result<Record, AllocError>
@@ -152,7 +101,10 @@ impl Record {
         ensures { IfOk result
             (λ made. made ≡ record { size = size; fields = listed fields.items }) }
     {
-        let leaves = leaves_in(alloc, fields.as_slice(), size)?;
+        let mut leaves = Vec::new(alloc);
+        for field in fields.as_slice() {
+            push_field(&mut leaves, field)?;
+        }
         Ok(Record {
             size,
             fields,
@@ -194,7 +146,13 @@ impl Record {
     pub fn try_copy(alloc: Global, original: &Record) -> Result<Record, AllocError>
         ensures { IfOk result (λ copy. copy ≡ original.now) }
     {
-        let fields = copied(alloc, original.fields.as_slice())?;
+        let mut fields = Vec::new(alloc);
+        for field in original.fields.as_slice() {
+            let name = FieldName::from_slice(alloc, field.name.as_slice())?;
+            let descr = Descr::try_copy(alloc, &field.descr)?;
+            let at = field.at;
+            fields.push(Field { name, at, descr })?;
+        }
         let leaves = Vec::from_slice(alloc, original.leaves.as_slice())?;
         Ok(Record {
             size: original.size,
@@ -279,21 +237,6 @@ impl Descr {
         ensures within { result.now.at + item_size result.now.descr ≤ item_size self.now }
     {
         &self.fields()[k]
-    }
-
-    /// The leaves of the field at this position: how many come before them, and how many there are.
-    pub fn leaves_of(&self, field: usize) -> (usize, usize)
-        requires { field < length (fields self.now) }
-        ensures value { result ≡ field_leaves self.now field }
-        ensures some { 1 ≤ result.1 }
-        ensures within { result.0 + result.1 ≤ length (leaves_of self.now) }
-        ensures leaves { let there = field_at self.now field
-            in take result.1 (drop result.0 (leaves_of self.now))
-            ≡ map (moved_leaf there.at) (leaves_of there.descr) }
-    {
-        let fields = self.fields();
-        let before = leaf_sum(&fields[..field]);
-        (before, fields[field].descr.leaf_count())
     }
 
     #[cycle(copy)]

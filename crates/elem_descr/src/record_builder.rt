@@ -23,7 +23,7 @@ pub struct RecordBuilder {
 }
 
 impl Model for RecordBuilder {
-    ghost use Rattle.elem_descr.specs.RecordBuilding.{Partial};
+    ghost use Rattle.elem_descr.specs.RecordBuilding.{Partial, built};
     ghost use Rattle.elem_descr.specs.inside.Partials.{IsPartial};
     ghost use Rattle.elem_descr.specs.contracts.descr.Field as field;
     ghost use Rattle.std.specs.Coded.{codes};
@@ -32,21 +32,10 @@ impl Model for RecordBuilder {
 
     ghost coded = { Prim.hlevel (codes, field.the_row.coded) };
 
-    ghost view = { λ b. record {
-      size = b.size;
-      alignment = b.alignment;
-      leaves = b.leaves;
-      levels = b.levels;
-      fields = b.fields.items;
-    } };
+    ghost view = { λ b. built b.size b.alignment b.leaves b.levels b.fields.items };
 
-    ghost invariant = { λ b. IsPartial (record {
-      size = b.size;
-      alignment = b.alignment;
-      leaves = b.leaves;
-      levels = b.levels;
-      fields = b.fields.items;
-    }) };
+    ghost invariant = { λ b. IsPartial
+        (built b.size b.alignment b.leaves b.levels b.fields.items) };
 }
 
 fn is_taken(fields: &[Field], name: &[u8]) -> bool
@@ -127,12 +116,9 @@ impl RecordBuilder {
         ensures levels { self.new.levels ≡ self.old.levels }
     {
         let leaves = self.leaves + descr.leaf_count();
-        if leaves > MAX_LEAVES {
-            return Err(Refusal::TooLarge);
-        }
         let at = self.size.next_multiple_of(alignment);
         let size = at + descr.size();
-        if size > MAX_ITEM_SIZE {
+        if leaves > MAX_LEAVES || size > MAX_ITEM_SIZE {
             return Err(Refusal::TooLarge);
         }
         self.fields.push(Field { name, at, descr })?;

@@ -51,13 +51,11 @@ fn byte_string(digits: &[u8]) -> Result<Scalar, Refusal>
     if !are_digits(digits) {
         return Err(Refusal::BadDescriptor);
     }
-    let value = capped_value(digits, MAX_ITEM_SIZE);
-    if value == 0 {
-        return Err(Refusal::DescriptorLeftOut);
-    }
-    match BytesLen::try_new(value) {
-        Some(len) => Ok(Scalar::Bytes(len)),
-        None => Err(Refusal::TooLarge),
+    match capped_value(digits, MAX_ITEM_SIZE) {
+        0 => Err(Refusal::DescriptorLeftOut),
+        n => BytesLen::try_new(n)
+            .map(Scalar::Bytes)
+            .ok_or(Refusal::TooLarge),
     }
 }
 
@@ -85,14 +83,10 @@ fn mark(scalar: &Scalar) -> u8
     ensures { result ∷ [] ≡ mark scalar.now }
 {
     match scalar {
-        Scalar::Int {
-            order: Order::Little,
-            ..
-        } => b'<',
-        Scalar::Int {
-            order: Order::Big,
-            ..
-        } => b'>',
+        Scalar::Int { order, .. } => match order {
+            Order::Little => b'<',
+            Order::Big => b'>',
+        },
         _ => b'|',
     }
 }
@@ -147,8 +141,5 @@ pub fn descr_read(alloc: Global, text: &[u8]) -> Result<Descr, Refusal>
     if !is_type_string(text) {
         return format_read(alloc, text);
     }
-    match typestr_read(text) {
-        Ok(scalar) => Ok(Descr::Scalar(scalar)),
-        Err(refusal) => Err(refusal),
-    }
+    Ok(Descr::Scalar(typestr_read(text)?))
 }

@@ -1,6 +1,6 @@
 //! The marks of a format text, and the numbers that its letters mean.
 ghost use Rattle.std.specs.Prelude.{◌≡◌, ◌≤◌};
-ghost use Rattle.elem_descr.specs.Clauses.{number_letter, order_under, long_under, is_aligning, aligned_to, own_alignment, after, marked};
+ghost use Rattle.elem_descr.specs.Clauses.{number_letter, long_under, is_aligning, aligned_to, own_alignment, after, marked};
 
 use crate::scalar::{Order, Scalar, Width};
 
@@ -42,38 +42,33 @@ impl Mark {
         }
     }
 
-    fn integer(self, signed: bool, width: Width) -> Scalar
-        ensures { result ≡ Scalar.Int signed width (order_under self) }
-    {
-        let order = match self {
-            Mark::Big => Order::Big,
-            _ => Order::Little,
-        };
-        Scalar::Int {
-            signed,
-            width,
-            order,
-        }
-    }
-
     /// The bool or the integer that a letter means.
     pub fn number(self, letter: u8) -> Option<Scalar>
         ensures { result ≡ number_letter self letter }
     {
-        match letter {
-            b'?' => Some(Scalar::Bool),
-            b'b' => Some(Scalar::Byte { signed: true }),
-            b'B' => Some(Scalar::Byte { signed: false }),
-            b'h' => Some(self.integer(true, Width::Two)),
-            b'H' => Some(self.integer(false, Width::Two)),
-            b'i' => Some(self.integer(true, Width::Four)),
-            b'I' => Some(self.integer(false, Width::Four)),
-            b'l' => Some(self.integer(true, self.long())),
-            b'L' => Some(self.integer(false, self.long())),
-            b'q' => Some(self.integer(true, Width::Eight)),
-            b'Q' => Some(self.integer(false, Width::Eight)),
-            _ => None,
-        }
+        let (signed, width) = match letter {
+            b'?' => return Some(Scalar::Bool),
+            b'b' => return Some(Scalar::Byte { signed: true }),
+            b'B' => return Some(Scalar::Byte { signed: false }),
+            b'h' => (true, Width::Two),
+            b'H' => (false, Width::Two),
+            b'i' => (true, Width::Four),
+            b'I' => (false, Width::Four),
+            b'l' => (true, self.long()),
+            b'L' => (false, self.long()),
+            b'q' => (true, Width::Eight),
+            b'Q' => (false, Width::Eight),
+            _ => return None,
+        };
+        let order = match self {
+            Mark::Big => Order::Big,
+            _ => Order::Little,
+        };
+        Some(Scalar::Int {
+            signed,
+            width,
+            order,
+        })
     }
 
     pub fn is_aligning(self) -> bool

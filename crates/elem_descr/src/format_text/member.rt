@@ -39,13 +39,9 @@ pub fn is_named(text: &[u8]) -> bool
 fn text_member(digits: &[u8]) -> Result<Member, Refusal>
     ensures { result ≡ held_member (text_member (count_of digits.now)) }
 {
-    let count = count(digits);
-    if count == 0 {
-        return Err(Refusal::DescriptorLeftOut);
-    }
-    match BytesLen::try_new(count) {
-        Some(len) => Ok(Member::Value(Some(Scalar::Bytes(len)))),
-        None => Ok(Member::Value(None)),
+    match count(digits) {
+        0 => Err(Refusal::DescriptorLeftOut),
+        count => Ok(Member::Value(BytesLen::try_new(count).map(Scalar::Bytes))),
     }
 }
 

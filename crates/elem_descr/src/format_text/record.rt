@@ -137,11 +137,8 @@ fn named(alloc: Global, number: usize, text: &[u8]) -> Result<(FieldName, &[u8])
     ensures legal { IfOk result (λ n. IsTrue (is_legal_name n.0)) }
 {
     if !is_named(text) {
-        let name = FieldName::numbered(alloc, number)?;
-        return Ok((name, text));
+        return Ok((FieldName::numbered(alloc, number)?, text));
     }
-    match name_at(&text[1..]) {
-        Ok((name, rest)) => Ok((FieldName::from_slice(alloc, name)?, rest)),
-        Err(refusal) => Err(refusal),
-    }
+    let (name, rest) = name_at(&text[1..])?;
+    Ok((FieldName::from_slice(alloc, name)?, rest))
 }

@@ -113,12 +113,8 @@ fn will_read(descr: &Descr)
     ensures { format (written_format descr.now) ≡ Ok descr.now }
 {
     match descr {
-        Descr::Scalar(scalar) => {
-            let _size = scalar.size();
-        }
-        Descr::Record(whole) => {
-            let _size = whole.size();
-        }
+        Descr::Scalar(scalar) => _ = scalar.size(),
+        Descr::Record(whole) => _ = whole.size(),
     }
 }
 

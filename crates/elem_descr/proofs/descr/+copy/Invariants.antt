@@ -2,5 +2,5 @@ use Rattle.std.proofs.Common.{◌≡◌, take}
 use Rattle.elem_descr.proofs.descr.+copy.Given as goal
 
 -- the fields so far are copied
-abbrev pub invariant-copied-loop-field : goal.invariant-copied-loop-field
-invariant-copied-loop-field l = l.copies.items ≡ take l.field-index l.fields
+abbrev pub invariant-Record::try_copy-loop-field : goal.invariant-Record::try_copy-loop-field
+invariant-Record::try_copy-loop-field l = l.fields.items ≡ take l.field-index l.field-items
