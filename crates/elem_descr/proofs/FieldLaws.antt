@@ -1,5 +1,5 @@
 -- The fields of a record and their leaves, one after another.
-use Rattle.std.proofs.Common.{◌≡◌, ◌≤◌, ◌<◌, ◌+◌, ℕ, zero, suc, List, [], ◌∷◌, ◌++◌, length, map, get_or, refl, ap, ◌∙◌, arith}
+use Rattle.std.proofs.Common.{◌≡◌, ◌≤◌, ◌<◌, ◌+◌, ℕ, zero, suc, List, [], ◌∷◌, ◌++◌, length, map, take, get_or, IfSome, slice_get, refl, ap, ◌∙◌, arith}
 use Rattle.elem_descr.proofs.Words.{get_or_default, Descr, ScalarDescr, RecordDescr, Scalar, Field, Leaf, size, Structure, IsLegal, InOrder, fields_of, listed, before, leaf_count, IsRecord, item_size, leaves_of, leaves_from, fields, no_field, field_at, no_leaf, moved_leaf, LeavesInOrder, AreInOrder, entry_within, leaf_within, leaves_in_order, length-leaves_from, leaves_from-before, field_within, listed-fields_of, some_leaves}
 
 -- If leaves are in order from `from` on, each of them begins at `from` or later.
@@ -64,6 +64,12 @@ kept_some size fields leaves h = omega (arith, kept_count size fields leaves h, 
 
 pub kept_few : (size : ℕ) (fields : List Field) (leaves : List Leaf) → IsRecord size fields leaves → length leaves ≤ 2048
 kept_few size fields leaves h = omega (arith, kept_count size fields leaves h, h.legal.few)
+
+-- the leaves of a field up to the `k`-th
+pub leaf_moved : (by : ℕ) (leaves : List Leaf) (k : ℕ) (scalar : Scalar) (at : ℕ) → k < length leaves → IfSome (slice_get leaves k) (λ leaf. (scalar ≡ leaf.scalar) × (at ≡ leaf.at)) → map (moved_leaf by) (take (suc k) leaves) ≡ map (moved_leaf by) (take k leaves) ++ record { scalar = scalar; at = by + at } ∷ []
+leaf_moved by [] k scalar at l is = absurd (omega arith)
+leaf_moved by (leaf ∷ leaves) zero scalar at l is = rw (is.0, is.1) refl
+leaf_moved by (leaf ∷ leaves) (suc k) scalar at l is = ap (λ (all : List Leaf). moved_leaf by leaf ∷ all) (leaf_moved by leaves k scalar at (omega arith) is)
 
 -- ---- the remaining fields
 

@@ -77,19 +77,10 @@ fn push_field(leaves: &mut Vec<Leaf>, field: &Field) -> Result<(), AllocError>
     ensures { OnOk result (leaves.new.items ≡ leaves.old.items
         ++ map (moved_leaf field.now.at) (leaves_of field.now.descr)) }
 {
-    match &field.descr {
-        Descr::Scalar(scalar) => leaves.push(Leaf {
-            scalar: *scalar,
-            at: field.at,
-        })?,
-        Descr::Record(inner) => {
-            for leaf in inner.leaves() {
-                leaves.push(Leaf {
-                    scalar: leaf.scalar,
-                    at: field.at + leaf.at,
-                })?;
-            }
-        }
+    for k in 0..field.descr.leaf_count() {
+        let (scalar, from) = field.descr.leaf_at(k);
+        let at = field.at + from;
+        leaves.push(Leaf { scalar, at })?;
     }
     Ok(())
 }

@@ -1,8 +1,8 @@
-use Rattle.std.proofs.Common.{ap, arith}
-use Rattle.elem_descr.proofs.Words.{item_size, leaf_within}
+use Rattle.std.proofs.Common.{add-one, append_assoc, arith, rules}
+use Rattle.elem_descr.proofs.FieldLaws.{leaf_moved}
 use Rattle.elem_descr.proofs.descr.push_field.Goals as goal
 
-pub overflow_add-field : goal.overflow_add-field
-overflow_add-field c =
-    let ends = leaf_within 0 _ _ c.loop-leaf.leaf-index c.leaf-item.result c.leaves-leaf-items.ensures.in_order c.loop-leaf-test.true c.leaf-item.is in
-    omega (arith, ap item_size c.in-Record.is, ends, c.requires.small)
+pub loop-k-preserved : goal.loop-k-preserved
+loop-k-preserved c =
+    let more = leaf_moved c.args.field.now.at _ c.loop-k.k _ _ (omega arith) c.leaf_at-scalar.ensures.leaf in
+    rw (add-one c.loop-k.k) (search (rules, more, c.loop-k.invariant, c.in_ok-push.ensures.items, append_assoc))
