@@ -1,6 +1,6 @@
 -- The fields of a record and their leaves, one after another.
-use Rattle.std.proofs.Common.{◌≡◌, ◌≤◌, ◌<◌, ◌+◌, ℕ, zero, suc, List, [], ◌∷◌, ◌++◌, length, map, take, get_or, IfSome, slice_get, refl, ap, ◌∙◌, arith}
-use Rattle.elem_descr.proofs.Words.{get_or_default, Descr, ScalarDescr, RecordDescr, Scalar, Field, Leaf, size, Structure, IsLegal, InOrder, fields_of, listed, before, leaf_count, IsRecord, item_size, leaves_of, leaves_from, fields, no_field, field_at, no_leaf, moved_leaf, LeavesInOrder, AreInOrder, entry_within, leaf_within, leaves_in_order, length-leaves_from, leaves_from-before, field_within, listed-fields_of, some_leaves}
+use Rattle.std.proofs.Common.{◌≡◌, ◌≤◌, ◌<◌, ◌+◌, ℕ, zero, suc, List, [], ◌∷◌, ◌++◌, length, map, take, drop, get_or, IfSome, slice_get, refl, sym, ap, ◌∙◌, arith}
+use Rattle.elem_descr.proofs.Words.{length-map, get_or_default, take-append_seam, drop-append-add, Descr, ScalarDescr, RecordDescr, Scalar, Field, Leaf, size, Structure, IsLegal, InOrder, fields_of, listed, before, leaf_count, IsRecord, item_size, leaves_of, leaves_from, leaves_in, fields, no_field, field_at, no_leaf, moved_leaf, LeavesInOrder, AreInOrder, entry_within, leaf_within, leaves_in_order, length-leaves_from, leaf_count-before, leaves_from-before, field_within, listed-fields_of, some_leaves}
 
 -- If leaves are in order from `from` on, each of them begins at `from` or later.
 begins_after : (from : ℕ) (leaves : List Leaf) (bytes k : ℕ) (d : Leaf) → AreInOrder from leaves bytes → k < length leaves → from ≤ (get_or leaves k d).at
@@ -51,6 +51,10 @@ fields_of-listed (field ∷ fields) = one field.name field.at field.descr fields
     one name at (ScalarDescr scalar) fields is = ap (λ (later : List Field). record { name = name; at = at; descr = ScalarDescr scalar } ∷ later) is
     one name at (RecordDescr structure) fields is = ap (λ (later : List Field). record { name = name; at = at; descr = RecordDescr structure } ∷ later) is
 
+pub leaves_in-listed : (fields : List Field) → leaves_in fields ≡ leaf_count (listed fields)
+leaves_in-listed [] = refl
+leaves_in-listed (field ∷ fields) = omega (arith, leaf_count-before field.name field.at field.descr (listed fields), leaves_in-listed fields)
+
 -- ---- the invariant of a record
 
 pub kept_in_order : (size : ℕ) (fields : List Field) (leaves : List Leaf) → IsRecord size fields leaves → AreInOrder 0 leaves size
@@ -77,6 +81,41 @@ pub leaves_before : (field : Field) (fields : List Field) → leaves_from 0 (lis
 leaves_before field fields =
     let none : 0 + field.at ≡ field.at = omega arith in
     rw none at (leaves_from-before 0 field.name field.at field.descr (listed fields))
+
+pub leaves_in-take : (fields : List Field) (k : ℕ) → leaves_in (take k fields) ≤ leaves_in fields
+leaves_in-take fields zero = omega arith
+leaves_in-take [] (suc k) = omega arith
+leaves_in-take (field ∷ fields) (suc k) = omega (arith, leaves_in-take fields k)
+
+-- The leaves of a field and of those before it are at most the leaves of all fields.
+pub leaves_of_one : (fields : List Field) (k : ℕ) (field : Field) → k < length fields → field ≡ get_or fields k field → leaves_in (take k fields) + length (leaves_of field.descr) ≤ leaves_in fields
+leaves_of_one [] k field l is = absurd (omega arith)
+leaves_of_one (first ∷ fields) zero field l is = rw is (omega arith)
+leaves_of_one (first ∷ fields) (suc k) field l is = omega (arith, leaves_of_one fields k field (omega arith) is)
+
+pub leaves_at_one : (fields : List Field) (k : ℕ) (field : Field) → k < length fields → field ≡ get_or fields k field → take (length (leaves_of field.descr)) (drop (leaves_in (take k fields)) (leaves_from 0 (listed fields))) ≡ map (moved_leaf field.at) (leaves_of field.descr)
+leaves_at_one [] k field l is = absurd (omega arith)
+leaves_at_one (first ∷ fields) zero field l is =
+    let front = map (moved_leaf first.at) (leaves_of first.descr) in
+    let all = leaves_before first fields in
+    let many = length-map (leaves_of first.descr) (moved_leaf first.at) in
+    rw (is, all, ← many) (take-append_seam front (leaves_from 0 (listed fields)))
+leaves_at_one (first ∷ fields) (suc k) field l is =
+    let front = map (moved_leaf first.at) (leaves_of first.descr) in
+    let all = leaves_before first fields in
+    let many = length-map (leaves_of first.descr) (moved_leaf first.at) in
+    rw (all, ← many, drop-append-add front (leaves_from 0 (listed fields)) (leaves_in (take k fields))) (leaves_at_one fields k field (omega arith) is)
+
+-- If a descriptor has fields, its leaves are those of the fields.
+pub leaves_of_fields : (descr : Descr) (k : ℕ) → k < length (fields descr) → leaves_of descr ≡ leaves_from 0 (listed (fields descr))
+leaves_of_fields (ScalarDescr scalar) k l = absurd (omega arith)
+leaves_of_fields (RecordDescr structure) k l = ap (leaves_from 0) (sym (listed-fields_of structure.fields))
+
+pub leaves_in_fields : (descr : Descr) → leaves_in (fields descr) ≤ length (leaves_of descr)
+leaves_in_fields (ScalarDescr scalar) = omega arith
+leaves_in_fields (RecordDescr structure) =
+    let seen = ap leaf_count (listed-fields_of structure.fields) in
+    omega (arith, leaves_in-listed (fields_of structure.fields), seen, length-leaves_from 0 structure.fields)
 
 -- each field ends within the item
 pub fields_within : (structure : Structure) → IsLegal structure → (k : ℕ) → k < length (fields_of structure.fields) → (field_at (RecordDescr structure) k).at + item_size (field_at (RecordDescr structure) k).descr ≤ structure.size

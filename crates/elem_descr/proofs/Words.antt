@@ -11,7 +11,7 @@ pub use Rattle.elem_descr.specs.FormatLetters.{Member, Opened, Pad, Value, align
 pub use Rattle.elem_descr.specs.FormatPieces.{Behind, Piece, between_colons, brace, byte_onto, cut_at_colons, digit_onto, is_colon, letter, letter_onto, lone_colon, nothing, opening, pieces, pieces_between, stray}
 pub use Rattle.elem_descr.specs.FormatTexts.{PieceKind, Reading, at_begin, begun, behind_member, beyond, called, closed_body, closed_in, complete, format, in_record, member, next_name, opened, part_of, read_on, step, unnamed, with_pad, with_record, with_scalar, within}
 pub use Rattle.elem_descr.specs.ItemLaws.{entry_within, leaf_count-before, leaf_within, leaves_from-before, leaves_in_order, length-leaves_from}
-pub use Rattle.elem_descr.specs.Items.{AreInOrder, LeavesInOrder, decode_item, encode_item, field_at, fields, item_size, leaves_from, leaves_of, moved_leaf, no_field, no_leaf}
+pub use Rattle.elem_descr.specs.Items.{AreInOrder, LeavesInOrder, decode_item, encode_item, field_at, fields, item_size, leaves_from, leaves_in, leaves_of, moved_leaf, no_field, no_leaf}
 pub use Rattle.elem_descr.specs.Names.{is_field_name_byte, is_legal_name}
 pub use Rattle.elem_descr.specs.NumberLaws.{wrap_fits, wrap_stays, wraps_to}
 pub use Rattle.elem_descr.specs.RecordBuilding.{IsShallow, Partial, closed_size, empty, if_small, is_taken, with_field}
@@ -22,7 +22,7 @@ pub use Rattle.elem_descr.specs.SpellingLaws.{one}
 pub use Rattle.elem_descr.specs.TypeStrings.{is_one_of, value_of}
 pub use Rattle.elem_descr.specs.Values.{LeafValue, number, text}
 pub use Rattle.elem_descr.specs.Weights.{weight}
-pub use Rattle.elem_descr.specs.Words.{AllByRecursion, append-nil, big_bytes, bytes_eq, cases_lt, decimal_digit, is_ascii_digit, le-leb, length-drop, list_all, little_bytes, lt-leb, min-eq_left, next_multiple_of, ok_or, option_map, prefix_len, take-append-drop, take-append_seam, take_all, w128}
+pub use Rattle.elem_descr.specs.Words.{AllByRecursion, append-nil, big_bytes, bytes_eq, cases_lt, decimal_digit, is_ascii_digit, le-leb, length-drop, length-map, list_all, little_bytes, lt-leb, min-eq_left, next_multiple_of, ok_or, option_map, prefix_len, take-append-drop, take-append_seam, take_all, w128}
 unfoldable pub use Rattle.elem_descr.specs.Words.{IsDistinct}
 pub use Rattle.elem_descr.specs.WrapLaws.{written_whole}
 pub use Rattle.elem_descr.specs.WrittenFormats.{braced, written_count, written_fields, written_format, written_letter, written_mark, written_name, written_pad, written_scalar}
@@ -44,7 +44,7 @@ pub use Rattle.elem_descr.specs.inside.Partials.{IsPartial}
 pub use Rattle.elem_descr.specs.inside.Records.{IsRecord}
 pub use Rattle.elem_descr.specs.inside.Turns.{Later, Reader, after, after_count, alone, as_held, capped, closing, fitting, format_in_turns, held_at, held_member, is_named, is_opened, lettered_before, marked, member_at, members, name_at, named, taken_in, turn}
 unfoldable pub use Rattle.elem_descr.specs.inside.Turns.{body_in, next_field, nothing_follows, pad_in, record_alone, record_within, scalar_alone, scalar_in}
-pub use Rattle.std.proofs.Math.Seq.{drop-append_seam}
+pub use Rattle.std.proofs.Math.Seq.{drop-append-add, drop-append_seam}
 pub use Rattle.std.proofs.lemmas.Bool.{and_parts, cases_Bool, cases_eq, leb-false}
 pub use Rattle.std.proofs.lemmas.Bool.Decides.{nat_tests}
 pub use Rattle.std.proofs.lemmas.Fmt.{decimal_nonempty, decimal_step}

@@ -77,6 +77,10 @@ no_field = record { name = []; at = 0; descr = ScalarDescr BoolScalar }
 abbrev pub field_at : Descr → ℕ → Field
 field_at descr k = get_or (fields descr) k no_field
 
+-- the leaves of the `k`-th field: the number of leaves before them, and how many they are
+abbrev pub field_leaves : Descr → ℕ → ℕ × ℕ
+field_leaves descr k = (leaves_in (take k (fields descr)), length (leaves_of (field_at descr k).descr))
+
 -- the values that the bytes of an item mean, one per leaf; bytes that belong to no leaf are ignored
 abbrev pub decode_item : Descr → List ℕ → List LeafValue
 decode_item descr bytes = map (λ leaf. decode leaf.scalar (take (size leaf.scalar) (drop leaf.at bytes))) (leaves_of descr)

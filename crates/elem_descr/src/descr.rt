@@ -2,7 +2,7 @@
 ghost use Rattle.elem_descr.specs.Descriptors.{IsLegal, fields_of, listed};
 ghost use Rattle.elem_descr.specs.Encoding.{size};
 ghost use Rattle.elem_descr.specs.Fields.{Structure, no_more};
-ghost use Rattle.elem_descr.specs.Items.{AreInOrder, LeavesInOrder, field_at, field_of, fields, item_size, leaves_from, leaves_of, moved_leaf};
+ghost use Rattle.elem_descr.specs.Items.{AreInOrder, LeavesInOrder, field_at, field_leaves, field_of, fields, item_size, leaves_from, leaves_in, leaves_of, moved_leaf};
 ghost use Rattle.std.specs.Prelude.{IfOk, IfSome, OnOk, [], length, map, position, slice_get, take, ℕ, ◌++◌, ◌+◌, ◌<◌, ◌∷◌, ◌≡◌, ◌≤◌};
 ghost use Rattle.std.proofs.Common.{drop, get_or};
 
@@ -83,6 +83,18 @@ fn push_field(leaves: &mut Vec<Leaf>, field: &Field) -> Result<(), AllocError>
         leaves.push(Leaf { scalar, at })?;
     }
     Ok(())
+}
+
+/// The number of leaves of fields.
+fn leaf_sum(fields: &[Field]) -> usize
+    requires { leaves_in fields.now ≤ 2048 }
+    ensures { result ≡ leaves_in fields.now }
+{
+    let mut sum = 0;
+    for field in fields {
+        sum += field.descr.leaf_count();
+    }
+    sum
 }
 
 impl Record {
@@ -228,6 +240,21 @@ impl Descr {
         ensures within { result.now.at + item_size result.now.descr ≤ item_size self.now }
     {
         &self.fields()[k]
+    }
+
+    /// The leaves of the field at this position: how many come before them, and how many there are.
+    pub fn leaves_of(&self, field: usize) -> (usize, usize)
+        requires { field < length (fields self.now) }
+        ensures value { result ≡ field_leaves self.now field }
+        ensures some { 1 ≤ result.1 }
+        ensures within { result.0 + result.1 ≤ length (leaves_of self.now) }
+        ensures leaves { let there = field_at self.now field
+            in take result.1 (drop result.0 (leaves_of self.now))
+            ≡ map (moved_leaf there.at) (leaves_of there.descr) }
+    {
+        let fields = self.fields();
+        let before = leaf_sum(&fields[..field]);
+        (before, fields[field].descr.leaf_count())
     }
 
     #[cycle(copy)]
