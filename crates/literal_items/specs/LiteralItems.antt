@@ -52,12 +52,9 @@ stand_for test (scalar_field name at scalar fields) (scalar_value literal values
 stand_for test (record_field name at size inner fields) (record_value literals values) = stand_for test inner literals && stand_for test fields values
 stand_for test _ _ = false
 
--- whether values can be those of the fields, and whether each is in range for its field
+-- whether values can be those of the fields
 abbrev pub can_hold : Fields → Values → Bool
 can_hold = stand_for is_castable
-
-abbrev pub are_in_range : Fields → Values → Bool
-are_in_range = stand_for is_in_range
 
 -- the values of the fields, leaf by leaf
 abbrev pub field_values : Fields → Values → List LeafValue
@@ -65,17 +62,19 @@ field_values (scalar_field name at scalar fields) (scalar_value literal values) 
 field_values (record_field name at size inner fields) (record_value literals values) = field_values inner literals ++ field_values fields values
 field_values _ _ = []
 
--- Whether a literal can be an item of a descriptor: a scalar literal goes to every leaf, and the values of a record
--- literal go to the fields of a record.
+-- Whether a literal matches an item of a descriptor, and each scalar passes a test: a scalar literal goes to every
+-- leaf, and the values of a record literal go to the fields of a record.
+abbrev pub item_passes : (Scalar → ScalarLiteral → Bool) → Descr → Literal → Bool
+item_passes test descr (ScalarOf literal) = list_all (λ leaf. test leaf.scalar literal) (leaves_of descr)
+item_passes test (RecordDescr structure) (RecordOf literals) = stand_for test structure.fields literals
+item_passes test (ScalarDescr scalar) (RecordOf literals) = false
+
+-- whether a literal can be an item, and whether it is in range as one
 abbrev pub can_be_item : Descr → Literal → Bool
-can_be_item descr (ScalarOf literal) = list_all (λ leaf. is_castable leaf.scalar literal) (leaves_of descr)
-can_be_item (RecordDescr structure) (RecordOf literals) = can_hold structure.fields literals
-can_be_item (ScalarDescr scalar) (RecordOf literals) = false
+can_be_item = item_passes is_castable
 
 abbrev pub is_item_in_range : Descr → Literal → Bool
-is_item_in_range descr (ScalarOf literal) = list_all (λ leaf. is_in_range leaf.scalar literal) (leaves_of descr)
-is_item_in_range (RecordDescr structure) (RecordOf literals) = are_in_range structure.fields literals
-is_item_in_range (ScalarDescr scalar) (RecordOf literals) = false
+is_item_in_range = item_passes is_in_range
 
 abbrev pub values_of : Descr → Literal → List LeafValue
 values_of descr (ScalarOf literal) = map (λ leaf. leaf_value leaf.scalar literal) (leaves_of descr)

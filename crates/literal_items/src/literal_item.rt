@@ -1,114 +1,67 @@
 //! Literals as items of a descriptor.
 ghost use Rattle.std.specs.Prelude.{Err, IfOk, MatchResult, Ok, OnErr, drop, length, map, replicate, take, true, ◌*◌, ◌++◌, ◌+◌, ◌≡◌, ◌≤◌};
-ghost use Rattle.literal_items.specs.Clauses.{RecordDescr, are_in_range, can_be_item, can_hold, field_values, is_castable, is_in_range, is_item_in_range, item_value, item_values, leaf_value, values_of, AreInOrder, IsLegal, LiteralOutOfRange, all_values, blocks, decode_item, encode_item, item_size, leaves_from, leaves_of, listed, moved_leaf, can_be_field, field_value, is_field_in_range, put_leaves, list_all};
+ghost use Rattle.literal_items.specs.Clauses.{RecordDescr, can_be_item, can_hold, field_values, is_castable, item_passes, item_value, item_values, leaf_value, values_of, AreInOrder, IsLegal, LiteralOutOfRange, all_values, blocks, decode_item, encode_item, item_size, leaves_from, leaves_of, listed, moved_leaf, can_be_field, field_value, passes, stand_for, stands_for, put_leaves, list_all};
 
-use crate::leaf::{is_castable, is_in_range, write_leaf};
+use crate::leaf::{Test, passes, write_leaf};
 use elem_descr::{Descr, Field, Leaf, Record, Refusal};
 use script_lang::{Literal, ScalarLiteral};
 
-/// Whether a literal can be the value of a field of a record.
-#[cycle(can_hold)]
-fn can_be_field(descr: &Descr, literal: &Literal) -> bool
-    ensures { result ≡ can_be_field descr.now literal.now }
+/// Whether a literal matches a field of a record, and each scalar passes the test.
+#[cycle(stand_for)]
+fn stands_for(test: Test, descr: &Descr, literal: &Literal) -> bool
+    ensures { result ≡ stands_for (passes test) descr.now literal.now }
 {
     match (descr, literal) {
-        (Descr::Scalar(scalar), Literal::Scalar(value)) => is_castable(scalar, value),
+        (Descr::Scalar(scalar), Literal::Scalar(value)) => passes(test, scalar, value),
         (Descr::Record(structure), Literal::Record(values)) => {
-            can_hold(structure.fields(), values.as_slice())
+            stand_for(test, structure.fields(), values.as_slice())
         }
         _ => false,
     }
 }
 
-/// Whether the literals can be the values of the fields, one by one.
-#[cycle(can_hold)]
-fn can_hold(fields: &[Field], literals: &[Literal]) -> bool
-    ensures { result ≡ can_hold (listed fields.now) (all_values literals.now) }
+/// Whether the literals match the fields one by one, and each scalar passes the test.
+#[cycle(stand_for)]
+fn stand_for(test: Test, fields: &[Field], literals: &[Literal]) -> bool
+    ensures { result ≡ stand_for (passes test) (listed fields.now) (all_values literals.now) }
 {
     if fields.len() != literals.len() {
         return false;
     }
     for (k, field) in fields.iter().enumerate() {
-        if !can_be_field(&field.descr, &literals[k]) {
+        if !stands_for(test, &field.descr, &literals[k]) {
             return false;
         }
     }
     true
 }
 
-/// Whether a literal can be the value of each leaf.
-fn is_castable_to_all(leaves: &[Leaf], literal: &ScalarLiteral) -> bool
-    ensures { result ≡ list_all (λ leaf. is_castable leaf.scalar literal.now) leaves.now }
+/// Whether each leaf passes the test with the literal.
+fn all_pass(test: Test, leaves: &[Leaf], literal: &ScalarLiteral) -> bool
+    ensures { result ≡ list_all (λ leaf. passes test leaf.scalar literal.now) leaves.now }
 {
-    leaves.iter().all(|leaf| is_castable(&leaf.scalar, literal))
+    leaves
+        .iter()
+        .all(|leaf| passes(test, &leaf.scalar, literal))
+}
+
+/// Whether the literal matches an item of the descriptor, and each leaf passes the test.
+fn item_passes(test: Test, descr: &Descr, literal: &Literal) -> bool
+    ensures { result ≡ item_passes (passes test) descr.now literal.now }
+{
+    match (descr, literal) {
+        (Descr::Record(structure), Literal::Scalar(value)) => {
+            all_pass(test, structure.leaves(), value)
+        }
+        _ => stands_for(test, descr, literal),
+    }
 }
 
 /// Whether the literal can be an item of the descriptor; otherwise it is refused as `NoSuchCast`.
 pub fn can_be_item(descr: &Descr, literal: &Literal) -> bool
     ensures { result ≡ can_be_item descr.now literal.now }
 {
-    match (descr, literal) {
-        (Descr::Record(structure), Literal::Scalar(value)) => {
-            is_castable_to_all(structure.leaves(), value)
-        }
-        _ => can_be_field(descr, literal),
-    }
-}
-
-/// Whether a literal that can be the value of a field is in its range.
-#[cycle(are_in_range)]
-fn is_field_in_range(descr: &Descr, literal: &Literal) -> bool
-    requires { can_be_field descr.now literal.now ≡ true }
-    ensures { result ≡ is_field_in_range descr.now literal.now }
-{
-    match (descr, literal) {
-        (Descr::Scalar(scalar), Literal::Scalar(value)) => is_in_range(scalar, value),
-        (Descr::Record(structure), Literal::Record(values)) => {
-            are_in_range(structure.fields(), values.as_slice())
-        }
-        _ => unreachable!(),
-    }
-}
-
-/// Whether the literals that the fields can hold are in their ranges.
-#[cycle(are_in_range)]
-fn are_in_range(fields: &[Field], literals: &[Literal]) -> bool
-    requires { can_hold (listed fields.now) (all_values literals.now) ≡ true }
-    ensures { result ≡ are_in_range (listed fields.now) (all_values literals.now) }
-{
-    for (k, field) in fields.iter().enumerate() {
-        if !is_field_in_range(&field.descr, &literals[k]) {
-            return false;
-        }
-    }
-    true
-}
-
-/// Whether a literal that each leaf can hold is in the range of each.
-fn is_in_range_of_all(leaves: &[Leaf], literal: &ScalarLiteral) -> bool
-    requires { list_all (λ leaf. is_castable leaf.scalar literal.now) leaves.now ≡ true }
-    ensures { result ≡ list_all (λ leaf. is_in_range leaf.scalar literal.now) leaves.now }
-{
-    for leaf in leaves {
-        if !is_in_range(&leaf.scalar, literal) {
-            return false;
-        }
-    }
-    true
-}
-
-/// Whether the values of a literal that can be an item are in range; otherwise it is refused as
-/// `LiteralOutOfRange`.
-fn is_item_in_range(descr: &Descr, literal: &Literal) -> bool
-    requires { can_be_item descr.now literal.now ≡ true }
-    ensures { result ≡ is_item_in_range descr.now literal.now }
-{
-    match (descr, literal) {
-        (Descr::Record(structure), Literal::Scalar(value)) => {
-            is_in_range_of_all(structure.leaves(), value)
-        }
-        _ => is_field_in_range(descr, literal),
-    }
+    item_passes(Test::Castable, descr, literal)
 }
 
 /// Writes a literal as the field that begins at an offset in the item.
@@ -162,22 +115,6 @@ fn write_leaves(leaves: &[Leaf], literal: &ScalarLiteral, item: &mut [u8])
     }
 }
 
-/// Writes a literal as the bytes of a record.
-fn write_record(structure: &Record, literal: &Literal, item: &mut [u8])
-    requires castable { can_be_item (RecordDescr structure.now) literal.now ≡ true }
-    requires whole { length item.old ≡ structure.now.size }
-    ensures encoded { let descr = RecordDescr structure.now in item.new
-        ≡ encode_item descr (values_of descr literal.now) }
-    ensures reads_back { let descr = RecordDescr structure.now in decode_item descr item.new
-        ≡ values_of descr literal.now }
-{
-    item.fill(0);
-    match literal {
-        Literal::Scalar(value) => write_leaves(structure.leaves(), value, item),
-        Literal::Record(values) => write_fields(structure, values.as_slice(), 0, item),
-    }
-}
-
 /// Writes a literal as the bytes of an item.
 fn write_cast(descr: &Descr, literal: &Literal, item: &mut [u8])
     requires castable { can_be_item descr.now literal.now ≡ true }
@@ -187,7 +124,14 @@ fn write_cast(descr: &Descr, literal: &Literal, item: &mut [u8])
 {
     match (descr, literal) {
         (Descr::Scalar(scalar), Literal::Scalar(value)) => write_leaf(scalar, value, item),
-        (Descr::Record(structure), _) => write_record(structure, literal, item),
+        (Descr::Record(structure), Literal::Scalar(value)) => {
+            item.fill(0);
+            write_leaves(structure.leaves(), value, item);
+        }
+        (Descr::Record(structure), Literal::Record(values)) => {
+            item.fill(0);
+            write_fields(structure, values.as_slice(), 0, item);
+        }
         _ => unreachable!(),
     }
 }
@@ -207,31 +151,20 @@ pub fn write_item(descr: &Descr, literal: &Literal, item: &mut [u8]) -> Result<(
     if !can_be_item(descr, literal) {
         return Err(Refusal::NoSuchCast);
     }
-    if !is_item_in_range(descr, literal) {
+    if !item_passes(Test::InRange, descr, literal) {
         return Err(Refusal::LiteralOutOfRange);
     }
     write_cast(descr, literal, item);
     Ok(())
 }
 
-/// Whether each literal can be an item of the descriptor.
-fn can_be_items(descr: &Descr, literals: &[Literal]) -> bool
-    ensures { result ≡ list_all (can_be_item descr.now) literals.now }
+/// Whether each literal passes the test as an item of the descriptor.
+fn items_pass(test: Test, descr: &Descr, literals: &[Literal]) -> bool
+    ensures { result ≡ list_all (item_passes (passes test) descr.now) literals.now }
 {
-    literals.iter().all(|literal| can_be_item(descr, literal))
-}
-
-/// Whether the values of each literal are in range.
-fn are_items_in_range(descr: &Descr, literals: &[Literal]) -> bool
-    requires { list_all (can_be_item descr.now) literals.now ≡ true }
-    ensures { result ≡ list_all (is_item_in_range descr.now) literals.now }
-{
-    for literal in literals {
-        if !is_item_in_range(descr, literal) {
-            return false;
-        }
-    }
-    true
+    literals
+        .iter()
+        .all(|literal| item_passes(test, descr, literal))
 }
 
 /// Writes literals as items one after another.
@@ -265,10 +198,10 @@ pub fn write_items(descr: &Descr, literals: &[Literal], block: &mut [u8]) -> Res
         ≡ map (encode_item descr.now) (map (decode_item descr.now) items)) }
     ensures kept { OnErr result (block.new ≡ block.old) }
 {
-    if !can_be_items(descr, literals) {
+    if !items_pass(Test::Castable, descr, literals) {
         return Err(Refusal::NoSuchCast);
     }
-    if !are_items_in_range(descr, literals) {
+    if !items_pass(Test::InRange, descr, literals) {
         return Err(Refusal::LiteralOutOfRange);
     }
     write_casts(descr, literals, block);

@@ -1,6 +1,8 @@
 -- Fields of records, and their literals.
 use Rattle.std.specs.Prelude.{ℕ, Bool, false, List, [], ◌∷◌, ◌++◌, take, drop}
 use Rattle.literal_items.specs.Words.{Scalar, Leaf, Descr, LeafValue, size, encode, ScalarLiteral, Literal, ScalarDescr, RecordDescr, ScalarOf, RecordOf}
+use Rattle.literal_items.specs.declared.leaf.Test.{Test}
+use Rattle.literal_items.specs.declared.leaf.Test.TheVariants.{Castable, InRange}
 use Rattle.literal_items.specs.LiteralItems.{is_castable, is_in_range, leaf_value, stand_for, field_values}
 
 -- whether a literal matches one field, and each scalar passes a test with its field
@@ -12,8 +14,10 @@ stands_for test _ _ = false
 abbrev pub can_be_field : Descr → Literal → Bool
 can_be_field = stands_for is_castable
 
-abbrev pub is_field_in_range : Descr → Literal → Bool
-is_field_in_range = stands_for is_in_range
+-- whether a literal passes a test of a scalar
+abbrev pub passes : Test → Scalar → ScalarLiteral → Bool
+passes Castable = is_castable
+passes InRange = is_in_range
 
 -- the values of one field
 abbrev pub field_value : Descr → Literal → List LeafValue

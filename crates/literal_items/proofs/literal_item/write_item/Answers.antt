@@ -11,13 +11,13 @@ returns-then-not-can_be_item-clause-value c =
     decided_first (can_be_item descr literal) (is_item_in_range descr literal) NoSuchCast LiteralOutOfRange (values_of descr literal)
     (sym c.can_be_item.ensures ∙ c.if-not-can_be_item.true)
 
-pub returns-then-not-is_item_in_range-clause-value : goal.returns-then-not-is_item_in_range-clause-value
+pub returns-then-not-item_passes-clause-value : goal.returns-then-not-item_passes-clause-value
 unfolding item_value
-returns-then-not-is_item_in_range-clause-value c =
+returns-then-not-item_passes-clause-value c =
     let descr = c.args.descr.now in
     let literal = c.args.literal.now in
     decided_second (can_be_item descr literal) (is_item_in_range descr literal) NoSuchCast LiteralOutOfRange (values_of descr literal)
-    (sym c.can_be_item.ensures ∙ c.if-not-can_be_item.false) (sym c.is_item_in_range.ensures ∙ c.if-not-is_item_in_range.true)
+    (sym c.can_be_item.ensures ∙ c.if-not-can_be_item.false) (sym c.item_passes.ensures ∙ c.if-not-item_passes.true)
 
 pub returns-clause-value : goal.returns-clause-value
 unfolding item_value
@@ -25,4 +25,4 @@ returns-clause-value c =
     let descr = c.args.descr.now in
     let literal = c.args.literal.now in
     decided_ok (can_be_item descr literal) (is_item_in_range descr literal) NoSuchCast LiteralOutOfRange (values_of descr literal) _
-    (sym c.can_be_item.ensures ∙ c.if-not-can_be_item.false) (sym c.is_item_in_range.ensures ∙ c.if-not-is_item_in_range.false) (sym c.write_cast.ensures.reads_back)
+    (sym c.can_be_item.ensures ∙ c.if-not-can_be_item.false) (sym c.item_passes.ensures ∙ c.if-not-item_passes.false) (sym c.write_cast.ensures.reads_back)
