@@ -1,6 +1,4 @@
 //! The commands of a script, with their index lists and lists of numbers.
-ghost use Rattle.std.specs.Prelude.{count_by, ◌≡◌};
-ghost use Rattle.script_lang.specs.Clauses.{is_ellipsis};
 
 use crate::literal::{Literal, Literals};
 use crate::short_list::ShortList;
@@ -162,14 +160,3 @@ pub type Integers = ShortList<i128, 8>;
 /// The items between the brackets: at least one, with `...` at most once. Integers have up to 30
 /// digits, and arrays are given by their names.
 pub type Index = ShortList<IndexItem<Name>, 1>;
-
-/// How many items are `...`.
-pub fn ellipses(index: &Index) -> usize
-    ensures { result ≡ count_by is_ellipsis index.now }
-{
-    index
-        .as_slice()
-        .iter()
-        .filter(|item| item.is_ellipsis())
-        .count()
-}

@@ -53,22 +53,12 @@ pub enum Literal {
 }
 
 /// The literals of `array`.
-#[derive(Drop)]
-pub struct Literals {
-    literals: Vec<Literal>,
-}
+pub type Literals = ShortList<Literal, 0>;
 
-impl Model for Literals {
-    ghost use Rattle.std.specs.Prelude.{List};
-    ghost use Rattle.script_lang.specs.Words.{coded_list};
-    ghost use Rattle.script_lang.specs.declared.literal.Literal.{Literal};
-    ghost use Rattle.script_lang.specs.contracts.literal.Literal as literal;
-
-    ghost Value = { List Literal };
-
-    ghost coded = { coded_list literal.the_row.coded };
-
-    ghost view = { λ l. l.literals.items };
+impl Default for Literal {
+    fn default() -> Literal {
+        Literal::Scalar(ScalarLiteral::Boolean(false))
+    }
 }
 
 impl RecordLiteral {
@@ -101,29 +91,5 @@ impl RecordLiteral {
         ensures { result.now ≡ literals_of self.now }
     {
         self.values.as_slice()
-    }
-}
-
-impl Literals {
-    pub fn new(alloc: Global) -> Literals
-        ensures { result ≡ [] }
-    {
-        Literals {
-            literals: Vec::new(alloc),
-        }
-    }
-
-    pub fn push(&mut self, literal: Literal) -> Result<(), AllocError>
-        ensures ok { OnOk result (self.new ≡ self.old ++ literal ∷ []) }
-        ensures err { OnErr result (self.new ≡ self.old) }
-    {
-        self.literals.push(literal)?;
-        Ok(())
-    }
-
-    pub fn as_slice(&self) -> &[Literal]
-        ensures { result.now ≡ self.now }
-    {
-        self.literals.as_slice()
     }
 }

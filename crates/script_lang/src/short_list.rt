@@ -1,5 +1,5 @@
 //! Lists that store their first items inline.
-ghost use Rattle.std.specs.Prelude.{◌≡◌, ◌<◌, ◌++◌, ◌∷◌, [], length, IsOk, OnOk, OnErr};
+ghost use Rattle.std.specs.Prelude.{◌≡◌, ◌<◌, ◌≤◌, ◌++◌, ◌∷◌, [], length, IfOk, IsOk, OnOk, OnErr};
 
 use smallvec::SmallVec;
 use std::alloc::{AllocError, Global};
@@ -47,5 +47,16 @@ impl<T: MadeWith<Global> + Drop, const N: usize> ShortList<T, N> {
         ensures { result.now ≡ self.now }
     {
         self.items.as_slice()
+    }
+}
+
+impl<T: MadeWith<Global> + Copy, const N: usize> ShortList<T, N> {
+    /// A copy of the items; up to `N` take no memory of their own.
+    pub fn from_slice(alloc: Global, items: &[T]) -> Result<ShortList<T, N>, AllocError>
+        ensures value { IfOk result (λ list. list ≡ items.now) }
+        ensures succeeds { length items.now ≤ N → IsOk result }
+    {
+        let items = SmallVec::from_slice(alloc, items)?;
+        Ok(ShortList { items })
     }
 }

@@ -1,10 +1,11 @@
 //! Texts that a command keeps as they are written.
-ghost use Rattle.std.specs.Prelude.{IfOk, IsOk, length, ◌≡◌, ◌≤◌};
+ghost use Rattle.std.specs.Prelude.{length, ◌≡◌, ◌≤◌};
 ghost use Rattle.script_lang.specs.Words.{refusal_text};
 
+use crate::short_list::ShortList;
 use elem_descr::Refusal;
 use smallvec::SmallVec;
-use std::alloc::{AllocError, Global};
+use std::alloc::Global;
 use std::marker::Model;
 
 /// The maximum number of bytes of a file's name.
@@ -12,18 +13,7 @@ pub const MAX_FILE_NAME_LEN: usize = 64;
 
 /// A text as it is written in the script: of a descriptor, or between the quotation marks of
 /// `field`.
-#[derive(Drop)]
-pub struct Text {
-    bytes: SmallVec<u8, 32>,
-}
-
-impl Model for Text {
-    ghost use Rattle.std.specs.Prelude.{List, ℕ};
-
-    ghost Value = { List ℕ };
-
-    ghost view = { λ t. t.bytes.items };
-}
+pub type Text = ShortList<u8, 32>;
 
 /// The name of a file: at most 64 bytes, which take no memory of their own.
 #[derive(Drop)]
@@ -39,23 +29,6 @@ impl Model for FileName {
     ghost view = { λ f. f.bytes.items };
 
     ghost invariant = { λ f. length f.bytes.items ≤ 64 };
-}
-
-impl Text {
-    /// A copy of the bytes; up to 32 take no memory of their own.
-    pub fn from_slice(alloc: Global, bytes: &[u8]) -> Result<Text, AllocError>
-        ensures value { IfOk result (λ t. t ≡ bytes.now) }
-        ensures succeeds { length bytes.now ≤ 32 → IsOk result }
-    {
-        let bytes = SmallVec::from_slice(alloc, bytes)?;
-        Ok(Text { bytes })
-    }
-
-    pub fn as_slice(&self) -> &[u8]
-        ensures { result.now ≡ self.now }
-    {
-        self.bytes.as_slice()
-    }
 }
 
 impl FileName {

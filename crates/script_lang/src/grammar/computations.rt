@@ -1,6 +1,6 @@
 //! What follows `X =` and computes: `copy`, `cast`, operations and reductions.
 ghost use Rattle.std.specs.Prelude.{◌≡◌};
-ghost use Rattle.script_lang.specs.Clauses.{copy_at, cast_at, combine_at, transform_at, reduce_at, computation_at, compute_at, Reads, computation_room, value_room};
+ghost use Rattle.script_lang.specs.Clauses.{copy_at, cast_at, combine_at, transform_at, reduce_at, compute_at, Reads, value_room};
 
 use crate::command::{Computation, Value};
 use crate::grammar::descriptors::descr;
@@ -13,28 +13,26 @@ use crate::verb::ComputeVerb;
 use elem_descr::Refusal;
 use std::alloc::Global;
 
-/// What the computation is, after its verb.
-#[tactic(auto, unfolding(crate::specs::Commands::copy_at, crate::specs::Commands::cast_at, crate::specs::Commands::combine_at, crate::specs::Commands::transform_at, crate::specs::Commands::reduce_at), using(crate::proofs::Commands::cast_room, crate::proofs::Commands::left_room, crate::proofs::Commands::right_room, crate::proofs::Commands::transform_room))]
-fn computation(
-    alloc: Global,
-    verb: ComputeVerb,
-    bytes: &[u8],
-) -> Result<(Computation, &[u8]), Refusal>
-    ensures { Reads (λ r. (r.0, r.1.now)) (λ r. computation_room r.0) result
-        (computation_at verb bytes.now) }
+/// The computation that the verb begins.
+#[tactic(auto, unfolding(crate::specs::Commands::copy_at, crate::specs::Commands::cast_at, crate::specs::Commands::combine_at, crate::specs::Commands::transform_at, crate::specs::Commands::reduce_at, crate::specs::Commands::compute_at), using(crate::proofs::Commands::cast_room, crate::proofs::Commands::left_room, crate::proofs::Commands::right_room, crate::proofs::Commands::transform_room, crate::proofs::Commands::compute_room))]
+pub fn compute(alloc: Global, verb: ComputeVerb, bytes: &[u8]) -> Result<(Value, &[u8]), Refusal>
+    ensures { Reads (λ r. (r.0, r.1.now)) (λ r. value_room r.0) result (compute_at verb bytes.now) }
 {
     match verb {
         ComputeVerb::Duplicate => {
             let (source, rest) = owned_name(alloc, bytes).ok_or(Refusal::Syntax)?;
             let (word, rest) = word(rest).ok_or(Refusal::Syntax)?;
             let order = order(word).ok_or(Refusal::Syntax)?;
-            Ok((Computation::Duplicate { source, order }, rest))
+            Ok((
+                Value::Compute(Computation::Duplicate { source, order }),
+                rest,
+            ))
         }
         ComputeVerb::Cast => {
             let (source, rest) = owned_name(alloc, bytes).ok_or(Refusal::Syntax)?;
             let (descr, rest) = descr(rest).ok_or(Refusal::Syntax)?;
             let descr = Text::from_slice(alloc, descr)?;
-            Ok((Computation::Cast { source, descr }, rest))
+            Ok((Value::Compute(Computation::Cast { source, descr }), rest))
         }
         ComputeVerb::Combine(operation) => {
             let (left, rest) = operand(alloc, bytes)?;
@@ -44,11 +42,14 @@ fn computation(
                 left,
                 right,
             };
-            Ok((combined, rest))
+            Ok((Value::Compute(combined), rest))
         }
         ComputeVerb::Transform(operation) => {
             let (operand, rest) = operand(alloc, bytes)?;
-            Ok((Computation::Transform { operation, operand }, rest))
+            Ok((
+                Value::Compute(Computation::Transform { operation, operand }),
+                rest,
+            ))
         }
         ComputeVerb::Reduce(reduction) => {
             let (source, rest) = owned_name(alloc, bytes).ok_or(Refusal::Syntax)?;
@@ -60,19 +61,7 @@ fn computation(
                 axis,
                 keep,
             };
-            Ok((reduced, rest))
+            Ok((Value::Compute(reduced), rest))
         }
-    }
-}
-
-/// The computation that the verb begins.
-#[tactic(auto, unfolding(crate::specs::Commands::compute_at), using(crate::proofs::Commands::compute_room))]
-pub fn compute(alloc: Global, verb: ComputeVerb, bytes: &[u8]) -> Result<(Value, &[u8]), Refusal>
-    ensures { Reads (λ r. (r.0, r.1.now)) (λ r. value_room r.0) result (compute_at verb bytes.now) }
-{
-    // With `?` or `map` a large value would be moved once more.
-    match computation(alloc, verb, bytes) {
-        Ok((computation, rest)) => Ok((Value::Compute(computation), rest)),
-        Err(refusal) => Err(refusal),
     }
 }

@@ -2,7 +2,7 @@
 ghost use Rattle.std.specs.Prelude.{◌≤◌, length};
 ghost use Rattle.script_lang.specs.Clauses.{by_rule, one_or_more, slice_at, ellipsis_at, index_item_at, index_at, bracket_at, optional_index_at, operand_named, operand_at, argument_at, Scans, Reads, index_room, optional_index_room, operand_room, argument_room};
 
-use crate::command::{Argument, Index, Operand, ellipses};
+use crate::command::{Argument, Index, Operand};
 use crate::grammar::literals::literal;
 use crate::grammar::names::name;
 use crate::grammar::numbers::{integer, optional_integer};
@@ -84,7 +84,8 @@ fn index(alloc: Global, bytes: &[u8]) -> Result<(Index, &[u8]), Refusal>
     ensures { Reads (λ r. (r.0, r.1.now)) (λ r. index_room r.0) result (index_at bytes.now) }
 {
     let (index, rest) = items(alloc, bytes)?;
-    if ellipses(&index) > 1 {
+    let ellipses = index.as_slice().iter().filter(|item| item.is_ellipsis());
+    if ellipses.count() > 1 {
         return Err(Refusal::Syntax);
     }
     Ok((index, rest))

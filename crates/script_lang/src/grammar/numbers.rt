@@ -1,6 +1,6 @@
 //! Numbers without a sign, integers, and the lists of numbers between parentheses.
 ghost use Rattle.std.specs.Prelude.{IfSome, length, true, ◌<◌, ◌^◌, ◌≡◌, ◌≤◌};
-ghost use Rattle.script_lang.specs.Clauses.{value_of, shape_at, signed_shape_at, by_rule, none_or_more, Reads, Scans, integer_at, is_digit, length_at, number_at, optional_integer_at, list_all};
+ghost use Rattle.script_lang.specs.Clauses.{value_of, shape_at, signed_shape_at, Reads, Scans, integer_at, is_digit, length_at, number_at, optional_integer_at, list_all};
 
 use crate::command::{Integers, Lengths};
 use crate::grammar::tokens::{Class, byte, front, is_parted, symbol, unspaced};
@@ -73,13 +73,13 @@ pub fn optional_integer(bytes: &[u8]) -> (Option<i128>, &[u8])
     }
 }
 
-/// Lengths separated by commas, up to the closing parenthesis, and what follows it.
-fn lengths(alloc: Global, bytes: &[u8]) -> Result<(Lengths, &[u8]), Refusal>
-    ensures { Reads (λ r. (r.0, r.1.now)) (λ _. true) result
-        (by_rule (none_or_more length_at 41) bytes.now) }
+/// The next shape, and what follows it.
+#[tactic(auto, unfolding(crate::specs::Indexes::shape_at))]
+pub fn shape(alloc: Global, bytes: &[u8]) -> Result<(Lengths, &[u8]), Refusal>
+    ensures { Reads (λ r. (r.0, r.1.now)) (λ _. true) result (shape_at bytes.now) }
 {
     let mut lengths = Lengths::new(alloc);
-    let mut rest = bytes;
+    let mut rest = symbol(b'(', bytes).ok_or(Refusal::Syntax)?;
     loop {
         if let Some(end) = symbol(b')', rest) {
             return Ok((lengths, end));
@@ -98,13 +98,13 @@ fn lengths(alloc: Global, bytes: &[u8]) -> Result<(Lengths, &[u8]), Refusal>
     }
 }
 
-/// Integers separated by commas, up to the closing parenthesis, and what follows it.
-fn integers(alloc: Global, bytes: &[u8]) -> Result<(Integers, &[u8]), Refusal>
-    ensures { Reads (λ r. (r.0, r.1.now)) (λ _. true) result
-        (by_rule (none_or_more integer_at 41) bytes.now) }
+/// The next shape with signs, and what follows it.
+#[tactic(auto, unfolding(crate::specs::Indexes::signed_shape_at))]
+pub fn signed_shape(alloc: Global, bytes: &[u8]) -> Result<(Integers, &[u8]), Refusal>
+    ensures { Reads (λ r. (r.0, r.1.now)) (λ _. true) result (signed_shape_at bytes.now) }
 {
     let mut integers = Integers::new(alloc);
-    let mut rest = bytes;
+    let mut rest = symbol(b'(', bytes).ok_or(Refusal::Syntax)?;
     loop {
         if let Some(end) = symbol(b')', rest) {
             return Ok((integers, end));
@@ -121,22 +121,4 @@ fn integers(alloc: Global, bytes: &[u8]) -> Result<(Integers, &[u8]), Refusal>
         };
         rest = next;
     }
-}
-
-/// The next shape, and what follows it.
-#[tactic(auto, unfolding(crate::specs::Indexes::shape_at))]
-pub fn shape(alloc: Global, bytes: &[u8]) -> Result<(Lengths, &[u8]), Refusal>
-    ensures { Reads (λ r. (r.0, r.1.now)) (λ _. true) result (shape_at bytes.now) }
-{
-    let rest = symbol(b'(', bytes).ok_or(Refusal::Syntax)?;
-    lengths(alloc, rest)
-}
-
-/// The next shape with signs, and what follows it.
-#[tactic(auto, unfolding(crate::specs::Indexes::signed_shape_at))]
-pub fn signed_shape(alloc: Global, bytes: &[u8]) -> Result<(Integers, &[u8]), Refusal>
-    ensures { Reads (λ r. (r.0, r.1.now)) (λ _. true) result (signed_shape_at bytes.now) }
-{
-    let rest = symbol(b'(', bytes).ok_or(Refusal::Syntax)?;
-    integers(alloc, rest)
 }

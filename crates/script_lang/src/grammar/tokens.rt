@@ -133,13 +133,12 @@ pub fn bytes_mark(bytes: &[u8]) -> Option<&[u8]>
 pub fn is_parted(bytes: &[u8]) -> bool
     ensures { result ≡ is_parted bytes.now }
 {
-    let [first, ..] = bytes else {
-        return true;
-    };
-    if is_name_byte(*first) || matches!(first, b'+' | b'-') {
-        return bytes_mark(bytes).is_some();
+    match bytes {
+        [first, ..] if is_name_byte(*first) || matches!(first, b'+' | b'-') => {
+            bytes_mark(bytes).is_some()
+        }
+        _ => true,
     }
-    true
 }
 
 /// The next word, with any blanks before it, and what follows it.
@@ -147,8 +146,7 @@ pub fn is_parted(bytes: &[u8]) -> bool
 pub fn word(bytes: &[u8]) -> Option<(&[u8], &[u8])>
     ensures { Scans (λ w. (w.0.now, w.1.now)) result (word_at bytes.now) }
 {
-    let bytes = unspaced(bytes);
-    let (word, rest) = front(Class::Name, bytes)?;
+    let (word, rest) = front(Class::Name, unspaced(bytes))?;
     if !is_parted(rest) {
         return None;
     }
@@ -161,10 +159,7 @@ pub fn keyword<'a>(keyword: &[u8], bytes: &'a [u8]) -> Option<&'a [u8]>
     ensures { Scans (λ rest. rest.now) result (keyword_at keyword.now bytes.now) }
 {
     let (word, rest) = word(bytes)?;
-    if word != keyword {
-        return None;
-    }
-    Some(rest)
+    (word == keyword).then_some(rest)
 }
 
 /// Whether this word comes next, and if so, what follows it.

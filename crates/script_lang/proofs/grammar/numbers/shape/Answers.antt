@@ -3,7 +3,7 @@ use Rattle.std.proofs.Common.{refl, inl}
 use Rattle.script_lang.proofs.Words.{length_at}
 use Rattle.script_lang.proofs.Shorter.{length_shorter, comma_behind}
 use Rattle.script_lang.proofs.Lists.{entries_closed, entries_no_entry, entries_last, entries_no_mark, entries_next}
-use Rattle.script_lang.proofs.grammar.numbers.lengths.Goals as goal
+use Rattle.script_lang.proofs.grammar.numbers.shape.Goals as goal
 
 pub returns-in-Some : goal.returns-in-Some
 returns-in-Some c = entries_closed length_at length_shorter 41 _ _ _ c.loop-end.invariant _ c.in-Some.ensures

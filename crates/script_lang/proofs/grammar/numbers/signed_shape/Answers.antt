@@ -3,7 +3,7 @@ use Rattle.std.proofs.Common.{refl, inl, ◌≡◌, rules, to_z, of_z}
 use Rattle.script_lang.proofs.Words.{w128, to_z-of_z, integer_at}
 use Rattle.script_lang.proofs.Shorter.{integer_shorter, comma_behind}
 use Rattle.script_lang.proofs.Lists.{entries_closed, entries_no_entry, entries_last, entries_no_mark, entries_next}
-use Rattle.script_lang.proofs.grammar.numbers.integers.Goals as goal
+use Rattle.script_lang.proofs.grammar.numbers.signed_shape.Goals as goal
 
 pub returns-in-Some : goal.returns-in-Some
 returns-in-Some c = entries_closed integer_at integer_shorter 41 _ _ _ c.loop-end.invariant _ c.in-Some.ensures
