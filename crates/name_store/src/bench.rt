@@ -8,6 +8,7 @@ use crate::history::{History, keep, make_room};
 use crate::table::Table;
 use crate::write::{Source, Target, write_items};
 use elem_descr::{Name, Refusal};
+use overlap_copy::share_cell;
 use std::alloc::{AllocError, Global};
 use std::marker::Model;
 
@@ -92,11 +93,8 @@ impl Bench {
         }
         make_room(&mut self.table.names, &self.history, 1)?;
         let earlier = self.table.bind(Name::copy(self.alloc, name), bound)?;
-        keep(
-            &mut self.table.slots,
-            &mut self.history,
-            Change::Bind { key, earlier },
-        );
+        let change = Change::Bind { key, earlier };
+        keep(&mut self.table.slots, &mut self.history, change);
         Ok(())
     }
 
@@ -140,11 +138,8 @@ impl Bench {
         }
         make_room(&mut self.table.names, &self.history, 0)?;
         let (place, _key, entry) = self.table.names.shift_remove_full(&key).unwrap();
-        keep(
-            &mut self.table.slots,
-            &mut self.history,
-            Change::Unbind { place, key, entry },
-        );
+        let change = Change::Unbind { place, key, entry };
+        keep(&mut self.table.slots, &mut self.history, change);
         Ok(())
     }
 
@@ -166,7 +161,10 @@ impl Bench {
     pub fn patch_bytes(&self, k: usize) -> Option<usize>
         ensures { result ≡ slice_get self.now.patches k }
     {
-        Some(self.history.get(k)?.patch_size())
+        match self.history.get(k)? {
+            Change::Write { items, .. } => Some(items.block.len()),
+            _ => Some(0),
+        }
     }
 
     /// Whether the arrays of two names share cells. Unknown names are refused before any memory is
@@ -175,7 +173,24 @@ impl Bench {
         ensures answers { AnswersShares self.now.state left.now right.now result }
         ensures no_memory { LieInTwo self.now.state left.now right.now → IsOk result }
     {
-        self.table.shares(self.alloc, left, right)
+        let Some(first) = self.table.names.get(left) else {
+            return Err(Refusal::UnknownName);
+        };
+        let Some(second) = self.table.names.get(right) else {
+            return Err(Refusal::UnknownName);
+        };
+        if first.number != second.number {
+            return Ok(false);
+        }
+        let whole = &self.table.slots.slot(first.number).descr;
+        let has_common = share_cell(
+            self.alloc,
+            &first.layout,
+            first.path.descr_in(whole).size(),
+            &second.layout,
+            second.path.descr_in(whole).size(),
+        )?;
+        Ok(has_common)
     }
 
     /// How many names are bound.

@@ -1,6 +1,4 @@
 //! Changes of the bench, as `undo` needs them.
-ghost use Rattle.std.specs.Prelude.{◌≡◌};
-ghost use Rattle.name_store.specs.Clauses.{patch_size};
 
 use crate::bound::Entry;
 use crate::write::Target;
@@ -36,16 +34,4 @@ pub enum Change {
         target: Target,
         items: OldItems,
     },
-}
-
-impl Change {
-    /// How many bytes the old items have.
-    pub(crate) fn patch_size(&self) -> usize
-        ensures { result ≡ patch_size self.now }
-    {
-        match self {
-            Change::Write { items, .. } => items.block.len(),
-            _ => 0,
-        }
-    }
 }

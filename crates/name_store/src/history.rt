@@ -44,10 +44,7 @@ impl History {
         ensures capacity { result ≡ self.now.capacity }
         ensures within { (length self.now.items ≤ result) × (result < 2 ^ 63) }
     {
-        match &self.ring {
-            None => 0,
-            Some(ring) => ring.capacity(),
-        }
+        self.ring.as_ref().map_or(0, |ring| ring.capacity())
     }
 
     /// How many changes are kept.
@@ -55,20 +52,14 @@ impl History {
         ensures len { result ≡ length self.now.items }
         ensures within { (result ≤ self.now.capacity) × (self.now.capacity < 2 ^ 63) }
     {
-        match &self.ring {
-            None => 0,
-            Some(ring) => ring.len(),
-        }
+        self.ring.as_ref().map_or(0, |ring| ring.len())
     }
 
     /// The k-th change, counted from 0, oldest first.
     pub(crate) fn get(&self, k: usize) -> Option<&Change>
         ensures { option_copied result ≡ slice_get self.now.items k }
     {
-        match &self.ring {
-            None => None,
-            Some(ring) => ring.get(k),
-        }
+        self.ring.as_ref()?.get(k)
     }
 
     /// Adds a change. If the history is full, its oldest change is removed and returned.
@@ -92,10 +83,7 @@ impl History {
         ensures items { self.new
             ≡ buffer (take (length self.old.items - 1) self.old.items) self.old.capacity }
     {
-        match &mut self.ring {
-            None => None,
-            Some(ring) => ring.pop_back(),
-        }
+        self.ring.as_mut()?.pop_back()
     }
 }
 

@@ -12,10 +12,8 @@ use crate::rewrite::put_back;
 use crate::slot::Slot;
 use crate::slots::Slots;
 use crate::write::Target;
-use arrays::Owned;
-use elem_descr::{Descr, Name, Refusal};
+use elem_descr::{Descr, Name};
 use indexmap::IndexMap;
-use overlap_copy::share_cell;
 use std::alloc::{AllocError, Global};
 
 /// Where an array is: the number of its buffer, and the size of its items.
@@ -47,12 +45,10 @@ fn legal_size(descr: &Descr) -> usize
 }
 
 impl Table {
-    ghost use Rattle.std.specs.Prelude.{◌≡◌, ◌≤◌, ◌<◌, ◌+◌, ℕ, [], true, IfOk, OnErr, IsOk, Some, None};
+    ghost use Rattle.std.specs.Prelude.{◌≡◌, ◌≤◌, ◌<◌, ◌+◌, ℕ, [], true, IfOk, OnErr, Some, None};
     ghost use Rattle.name_store.specs.Words.{spare};
     ghost use Rattle.name_store.specs.Arrays.{has_room_for, is_bound};
-    ghost use Rattle.name_store.specs.Calls.{AnswersShares};
     ghost use Rattle.name_store.specs.Invariants.{users_at};
-    ghost use Rattle.name_store.specs.Memory.{LieInTwo};
     ghost use Rattle.name_store.specs.Tables.{table_state};
     ghost use Rattle.name_store.specs.Views.{MayBind};
     ghost use Rattle.name_store.specs.declared.change.Change.TheVariants.{Bind, Unbind, Write};
@@ -85,34 +81,6 @@ impl Table {
         }
     }
 
-    /// Whether the arrays of two names share cells. Memory may be needed only if both are in the
-    /// same buffer.
-    pub(crate) fn shares(&self, alloc: Global, left: &Name, right: &Name) -> Result<bool, Refusal>
-        ensures answers { AnswersShares (table_state self.now) left.now
-            right.now result }
-        ensures no_memory { LieInTwo (table_state self.now) left.now
-            right.now → IsOk result }
-    {
-        let Some(first) = self.names.get(left) else {
-            return Err(Refusal::UnknownName);
-        };
-        let Some(second) = self.names.get(right) else {
-            return Err(Refusal::UnknownName);
-        };
-        if first.number != second.number {
-            return Ok(false);
-        }
-        let whole = &self.slots.slot(first.number).descr;
-        let has_common = share_cell(
-            alloc,
-            &first.layout,
-            first.path.descr_in(whole).size(),
-            &second.layout,
-            second.path.descr_in(whole).size(),
-        )?;
-        Ok(has_common)
-    }
-
     /// Makes an entry for what a name will be bound to, and counts one more user of its buffer. A
     /// new array gets a slot of its own: only this takes memory, before anything changes.
     fn lodge(&mut self, bound: Bound) -> Result<Entry, AllocError>
@@ -126,23 +94,18 @@ impl Table {
     {
         match bound {
             Bound::Fresh(owned) => {
-                let Owned {
-                    block,
-                    descr,
-                    layout,
-                } = owned;
-                let item = legal_size(&descr);
+                let item = legal_size(&owned.descr);
                 let slot = Slot {
-                    descr,
-                    items: layout.shape.items(),
-                    block,
+                    descr: owned.descr,
+                    items: owned.layout.shape.items(),
+                    block: owned.block,
                     users: 1,
                 };
                 let number = self.slots.add(slot)?;
                 Ok(Entry {
                     number,
                     path: Path::whole(),
-                    layout,
+                    layout: owned.layout,
                     item,
                     writable: true,
                 })
