@@ -6,21 +6,6 @@ use elem_descr::{Descr, Refusal};
 use shape_strides::Layout;
 use std::alloc::{AllocError, Global};
 
-/// The layout with each address `by` bytes further on.
-fn moved(alloc: Global, layout: &Layout, by: usize) -> Result<Layout, AllocError>
-    requires { Fits layout.now max_bytes (by + 1) }
-    ensures shape { IfOk result (λ l. l.shape ≡ layout.now.shape) }
-    ensures addresses { IfOk result (λ l. (index : List ℕ) → IsIndex layout.now.shape index
-        → address l index ≡ address layout.now index +ℤ pos by) }
-{
-    let mut moved = Layout::try_copy(alloc, layout)?;
-    if moved.shape.items() == 0 {
-        return Ok(moved);
-    }
-    moved.offset += by;
-    Ok(moved)
-}
-
 /// The view of one field of each item, where the items are those of `descr`: the offsets grow by
 /// the offset of the field in an item. A field may be a record. A name that is not a field is
 /// refused as `NoSuchField`, and so is any name if the items are not records. A view without items
@@ -34,5 +19,10 @@ pub fn field(alloc: Global, layout: &Layout, descr: &Descr, name: &[u8]) -> Resu
     };
     let field = descr.field(k);
     let _size = field.descr.size();
-    Ok(moved(alloc, layout, field.at)?)
+    let mut moved = Layout::try_copy(alloc, layout)?;
+    if moved.shape.items() == 0 {
+        return Ok(moved);
+    }
+    moved.offset += field.at;
+    Ok(moved)
 }

@@ -137,7 +137,8 @@ fn push_length(lengths: &mut SmallVec<usize, 4>, pick: AxisPick) -> Result<(), A
     }
 }
 
-fn picked_lengths(alloc: Global, picks: &[AxisPick]) -> Result<SmallVec<usize, 4>, AllocError>
+/// The lengths of the axes of what is picked.
+pub fn picked_lengths(alloc: Global, picks: &[AxisPick]) -> Result<SmallVec<usize, 4>, AllocError>
     ensures { IfOk result (λ v. v.items ≡ picked_shape (map pick_shown picks.now)) }
 {
     let mut lengths = SmallVec::new(alloc);
@@ -147,23 +148,17 @@ fn picked_lengths(alloc: Global, picks: &[AxisPick]) -> Result<SmallVec<usize, 4
     Ok(lengths)
 }
 
-fn push_first(index: &mut SmallVec<usize, 4>, pick: AxisPick) -> Result<(), AllocError>
-    ensures { OnOk result (index.new.items ≡ index.old.items ++ first_of pick) }
-{
-    match pick {
-        AxisPick::At(number) => Ok(index.push(number)?),
-        AxisPick::Along(run) => Ok(index.push(run.first)?),
-        AxisPick::New => Ok(()),
-    }
-}
-
 /// The index of the first item that is picked.
 fn first_index(alloc: Global, picks: &[AxisPick]) -> Result<SmallVec<usize, 4>, AllocError>
     ensures { IfOk result (λ v. v.items ≡ flat_map first_of picks.now) }
 {
     let mut index = SmallVec::new(alloc);
     for pick in picks {
-        push_first(&mut index, *pick)?;
+        match pick {
+            AxisPick::At(number) => index.push(*number)?,
+            AxisPick::Along(run) => index.push(run.first)?,
+            AxisPick::New => {}
+        }
     }
     Ok(index)
 }

@@ -6,20 +6,19 @@ use crate::axis_lists::axes_of;
 use elem_descr::Refusal;
 use shape_strides::{Layout, Shape, Strides};
 use smallvec::SmallVec;
-use std::alloc::{AllocError, Global};
+use std::alloc::Global;
 
-/// The layout with these axes.
-fn with_axes(alloc: Global, layout: &Layout, axes: &[usize]) -> Result<Layout, AllocError>
-    requires { AreAllAxes (length layout.now.shape) axes.now }
-    ensures ok { IfOk result
-        (λ view. IsViewOf layout.now view
-        (record {
-          shape = transposed_shape axes.now layout.now.shape;
-          leads
-              = transposed_index axes.now;
-        })) }
+/// The view whose axis k is the axis at position k of `axes`, in which a negative number counts
+/// from the end; without `axes`, the axes are reversed. A wrong number of axes, an axis out of
+/// range and a repeated axis are refused as `BadAxis`. A view without items has strides and offset
+/// 0.
+pub fn transpose(alloc: Global, layout: &Layout, axes: Option<&[i128]>) -> Result<Layout, Refusal>
+    ensures view { GivesView layout.now result
+        (transposed layout.now.shape (option_copied axes.entry)) }
     ensures nested { IfOk result (KeepsNested layout.now) }
 {
+    let named = axes_of(alloc, layout.shape.rank(), axes)?;
+    let axes = named.as_slice();
     let old_lengths = layout.shape.as_slice();
     let old_strides = layout.strides.as_slice();
     let mut lengths = SmallVec::<usize, 4>::new(alloc);
@@ -34,17 +33,4 @@ fn with_axes(alloc: Global, layout: &Layout, axes: &[usize]) -> Result<Layout, A
         strides,
         offset: layout.offset,
     })
-}
-
-/// The view whose axis k is the axis at position k of `axes`, in which a negative number counts
-/// from the end; without `axes`, the axes are reversed. A wrong number of axes, an axis out of
-/// range and a repeated axis are refused as `BadAxis`. A view without items has strides and offset
-/// 0.
-pub fn transpose(alloc: Global, layout: &Layout, axes: Option<&[i128]>) -> Result<Layout, Refusal>
-    ensures view { GivesView layout.now result
-        (transposed layout.now.shape (option_copied axes.entry)) }
-    ensures nested { IfOk result (KeepsNested layout.now) }
-{
-    let axes = axes_of(alloc, layout.shape.rank(), axes)?;
-    Ok(with_axes(alloc, layout, axes.as_slice())?)
 }

@@ -1,5 +1,5 @@
 use Rattle.std.proofs.Common.{◌≡◌, map, take, get_or, pos}
-use Rattle.view_ops.proofs.transposition.with_axes.Given as goal
+use Rattle.view_ops.proofs.transposition.transpose.Given as goal
 
 abbrev pub invariant-loop-axis : goal.invariant-loop-axis
 invariant-loop-axis l = record {
