@@ -1,6 +1,7 @@
 -- The offsets of a plan, one by one.
 use Rattle.std.proofs.Common.{◌≡◌, ℕ, zero, suc, ◌+◌, ◌-◌, ◌*◌, ◌/◌, ◌%◌, ◌<◌, inl, inr, List, [], ◌∷◌, ◌++◌, length, get_or, All, refl, sym, ap, ◌∙◌, arith, add-mul, suc-mul, zero-mul, length-append, mul_assoc, mul-le-mul_right}
-use Rattle.fancy_index.proofs.Words.{flat_map, length-map, get_or-map, get_or_append_left, get_or-append_right, All-get_or, div-add-mod', cases_lt, factors_pos, moved_offset, shifted, shifted_all, moved_all, IsMoved, IsStart, AreStarts}
+use Rattle.fancy_index.proofs.Words.{flat_map, length-map, get_or-map, get_or_append_left, get_or-append_right, All-get_or, div-add-mod', cases_lt, mod-lt, factors_pos, count, offsets, length-offsets, moved_offset, shifted, shifted_all, moved_all, offsets_from, IsMoved, IsStart, AreStarts}
+use Rattle.fancy_index.specs.declared.plan_rows.PlanAxes.{PlanAxes}
 
 -- ---- concatenated lists of the same length
 
@@ -31,13 +32,13 @@ pub length-moved_all : (base : ℕ) (outer shifts inner : List ℕ) → length (
 length-moved_all base outer shifts inner = length-even (shifted_all base shifts inner) (length shifts * length inner) (length-shifted base shifts inner) outer
 
 -- if there is an item, there is a shift and an inner item
-pub some_of : (base : ℕ) (outer shifts inner : List ℕ) (rank : ℕ) → rank < length (moved_all base outer shifts inner) → (0 < length shifts) × (0 < length inner)
+some_of : (base : ℕ) (outer shifts inner : List ℕ) (rank : ℕ) → rank < length (moved_all base outer shifts inner) → (0 < length shifts) × (0 < length inner)
 some_of base outer shifts inner rank low =
     let both = factors_pos (length outer) (length shifts * length inner) (omega (arith, low, length-moved_all base outer shifts inner)) in
     factors_pos (length shifts) (length inner) both.1
 
 -- the place of an item is one of the outer places
-pub place_low : (base : ℕ) (outer shifts inner : List ℕ) (rank a s i : ℕ) → rank < length (moved_all base outer shifts inner) → rank ≡ a * (length shifts * length inner) + (s * length inner + i) → a < length outer
+place_low : (base : ℕ) (outer shifts inner : List ℕ) (rank a s i : ℕ) → rank < length (moved_all base outer shifts inner) → rank ≡ a * (length shifts * length inner) + (s * length inner + i) → a < length outer
 place_low base outer shifts inner rank a s i low is =
     elim (cases_lt a (length outer)) [
       | inl below ↦ below
@@ -45,7 +46,7 @@ place_low base outer shifts inner rank a s i low is =
     ]
 
 -- a rank, computed from its place, shift and inner item
-pub rank_is : (rank shifts inner : ℕ) → rank ≡ rank / inner / shifts * (shifts * inner) + (rank / inner % shifts * inner + rank % inner)
+rank_is : (rank shifts inner : ℕ) → rank ≡ rank / inner / shifts * (shifts * inner) + (rank / inner % shifts * inner + rank % inner)
 rank_is rank shifts inner =
     let row = rank / inner in
     let a = row / shifts in
@@ -56,7 +57,7 @@ rank_is rank shifts inner =
     let same : (a * shifts + s) * inner ≡ row * inner = ap (λ n. n * inner) split in
     omega (arith, whole, sum, same, mul_assoc a shifts inner)
 
-pub get_or-moved_all : (base : ℕ) (outer shifts inner : List ℕ) (rank a s i : ℕ) → a < length outer → s < length shifts → i < length inner → rank ≡ a * (length shifts * length inner) + (s * length inner + i) →
+get_or-moved_all : (base : ℕ) (outer shifts inner : List ℕ) (rank a s i : ℕ) → a < length outer → s < length shifts → i < length inner → rank ≡ a * (length shifts * length inner) + (s * length inner + i) →
     get_or (moved_all base outer shifts inner) rank 0 ≡ moved_offset base (moved_offset base (get_or outer a 0) (get_or shifts s 0)) (get_or inner i 0)
 get_or-moved_all base outer shifts inner rank a s i low low' low'' is =
     let place = get_or outer a 0 in
@@ -70,10 +71,60 @@ get_or-moved_all base outer shifts inner rank a s i low low' low'' is =
     within s n i m below inside = omega (arith, mul-le-mul_right m below, suc-mul s m)
 
 -- the start at that place and shift, and its inner items
-pub start_at : (base : ℕ) (outer shifts inner : List ℕ) (a s : ℕ) → a < length outer → s < length shifts → All (AreStarts base inner shifts) outer → IsStart base inner (get_or outer a 0) (get_or shifts s 0)
+start_at : (base : ℕ) (outer shifts inner : List ℕ) (a s : ℕ) → a < length outer → s < length shifts → All (AreStarts base inner shifts) outer → IsStart base inner (get_or outer a 0) (get_or shifts s 0)
 start_at base outer shifts inner a s low low' starts =
     All-get_or (IsStart base inner (get_or outer a 0)) shifts s 0 low' (All-get_or (AreStarts base inner shifts) outer a 0 low starts)
 
-pub item_at : (base : ℕ) (outer shifts inner : List ℕ) (a s i : ℕ) → a < length outer → s < length shifts → i < length inner → All (AreStarts base inner shifts) outer → IsMoved base (moved_offset base (get_or outer a 0) (get_or shifts s 0)) (get_or inner i 0)
+item_at : (base : ℕ) (outer shifts inner : List ℕ) (a s i : ℕ) → a < length outer → s < length shifts → i < length inner → All (AreStarts base inner shifts) outer → IsMoved base (moved_offset base (get_or outer a 0) (get_or shifts s 0)) (get_or inner i 0)
 item_at base outer shifts inner a s i low low' low'' starts =
     All-get_or (IsMoved base (moved_offset base (get_or outer a 0) (get_or shifts s 0))) inner i 0 low'' (start_at base outer shifts inner a s low low' starts).items
+
+-- the item with a rank, if there are `n` shifts and `many` inner items
+module _ (axes : PlanAxes) (rank n many : ℕ) (low : rank < length (offsets_from axes)) (n-is : n ≡ length axes.shifts.items) (many-is : many ≡ count axes.inner.shape) where
+  abbrev base : ℕ
+  base = axes.inner.offset
+
+  abbrev a : ℕ
+  a = rank / many / n
+
+  abbrev s : ℕ
+  s = rank / many % n
+
+  abbrev i : ℕ
+  i = rank % many
+
+  inner-is : length (offsets axes.inner) ≡ many
+  inner-is = length-offsets axes.inner ∙ sym many-is
+
+  some : (0 < length axes.shifts.items) × (0 < length (offsets axes.inner))
+  some = some_of base (offsets axes.outer) axes.shifts.items (offsets axes.inner) rank low
+
+  pub some-shift : 0 < n
+  some-shift = omega (arith, some.0, n-is)
+
+  pub some-item : 0 < many
+  some-item = omega (arith, some.1, inner-is)
+
+  pub shift-low : s < length axes.shifts.items
+  shift-low = omega (arith, mod-lt (rank / many) some-shift, n-is)
+
+  item-low : i < length (offsets axes.inner)
+  item-low = omega (arith, mod-lt rank some-item, inner-is)
+
+  spread : rank ≡ a * (length axes.shifts.items * length (offsets axes.inner)) + (s * length (offsets axes.inner) + i)
+  spread = rank_is rank n many ∙ (λ t. a * (n-is t * sym inner-is t) + (s * sym inner-is t + i))
+
+  place-in : a < length (offsets axes.outer)
+  place-in = place_low base (offsets axes.outer) axes.shifts.items (offsets axes.inner) rank a s i low spread
+
+  pub place-low : a < count axes.outer.shape
+  place-low = omega (arith, place-in, length-offsets axes.outer)
+
+  pub start-moved : IsMoved base (get_or (offsets axes.outer) a 0) (get_or axes.shifts.items s 0)
+  start-moved = (start_at base (offsets axes.outer) axes.shifts.items (offsets axes.inner) a s place-in shift-low axes.starts).start
+
+  pub item-moved : IsMoved base (moved_offset base (get_or (offsets axes.outer) a 0) (get_or axes.shifts.items s 0)) (get_or (offsets axes.inner) i 0)
+  item-moved = item_at base (offsets axes.outer) axes.shifts.items (offsets axes.inner) a s i place-in shift-low item-low axes.starts
+
+  pub item-is : get_or (offsets_from axes) rank 0 ≡ moved_offset base (moved_offset base (get_or (offsets axes.outer) a 0) (get_or axes.shifts.items s 0)) (get_or (offsets axes.inner) i 0)
+  item-is = get_or-moved_all base (offsets axes.outer) axes.shifts.items (offsets axes.inner) rank a s i place-in shift-low item-low spread

@@ -49,15 +49,11 @@ fn push_shifted(
     if let Some(bytes) = rows.row_bytes(width) {
         return push_singles(items, block, rows, bytes);
     }
-    let inner = rows.inner;
+    let layout = rows.inner;
     let mut items = items;
     for shift in rows.shifts {
-        let from = moved(inner.offset, rows.place, *shift as usize);
-        let source = MovedLayout {
-            layout: inner,
-            start: from,
-        };
-        items = push_moved(items, block, source, width);
+        let start = moved(layout.offset, rows.place, *shift as usize);
+        items = push_moved(items, block, MovedLayout { layout, start }, width);
     }
     items
 }
@@ -122,14 +118,11 @@ fn scatter_shifts(block: &mut RawBlock, rows: Shifted<'_>, source: PackedItems<'
     if rows.is_single() {
         return scatter_singles(block, rows, source);
     }
-    let inner = rows.inner;
+    let layout = rows.inner;
     let mut at = source.at;
     for shift in rows.shifts {
-        let to = moved(inner.offset, rows.place, *shift as usize);
-        let target = MovedLayout {
-            layout: inner,
-            start: to,
-        };
+        let start = moved(layout.offset, rows.place, *shift as usize);
+        let target = MovedLayout { layout, start };
         at = scatter_moved(block, target, PackedItems { at, ..source });
     }
     at
@@ -179,14 +172,10 @@ fn fill_shifts(block: &mut RawBlock, rows: Shifted<'_>, item: &[u8])
         fill_singles(block, rows, item);
         return;
     }
-    let inner = rows.inner;
+    let layout = rows.inner;
     for shift in rows.shifts {
-        let start = moved(inner.offset, rows.place, *shift as usize);
-        let target = MovedLayout {
-            layout: inner,
-            start,
-        };
-        fill_moved(block, target, item);
+        let start = moved(layout.offset, rows.place, *shift as usize);
+        fill_moved(block, MovedLayout { layout, start }, item);
     }
 }
 

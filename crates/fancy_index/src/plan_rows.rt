@@ -51,15 +51,21 @@ pub(crate) fn moved(base: usize, start: usize, offset: usize) -> usize
     start + offset - base
 }
 
-/// Whether each shift is the one before it plus a step.
-fn rise_evenly(shifts: &[u32], step: u32) -> bool
+/// Whether items of `width` bytes at these shifts are adjacent. Wide items gain nothing from it, so
+/// for these it is `false`.
+pub(crate) fn are_adjacent(shifts: &[u32], width: usize) -> bool
     requires some { 1 ≤ length shifts.now }
     requires few { length shifts.now ≤ 128 }
-    ensures { IsTrue result → (k : ℕ) → k < length shifts.now
-        → get_or shifts.now k 0 ≡ get_or shifts.now 0 0 + k * step }
+    ensures narrow { IsTrue result → width ≤ 64 }
+    ensures even { IsTrue result → (k : ℕ) → k < length shifts.now
+        → get_or shifts.now k 0 ≡ get_or shifts.now 0 0 + k * width }
 {
+    if width > 64 {
+        return false;
+    }
+    let step = width as u32;
     let n = shifts.len();
-    let last = shifts[0] as usize + (n - 1) * step as usize;
+    let last = shifts[0] as usize + (n - 1) * width;
     if shifts[n - 1] as usize != last {
         return false;
     }
@@ -70,18 +76,6 @@ fn rise_evenly(shifts: &[u32], step: u32) -> bool
         even &= shifts[k] == next;
     }
     even
-}
-
-/// Whether items of `width` bytes at these shifts are adjacent. Wide items gain nothing from it, so
-/// for these it is `false`.
-pub(crate) fn are_adjacent(shifts: &[u32], width: usize) -> bool
-    requires some { 1 ≤ length shifts.now }
-    requires few { length shifts.now ≤ 128 }
-    ensures narrow { IsTrue result → width ≤ 64 }
-    ensures even { IsTrue result → (k : ℕ) → k < length shifts.now
-        → get_or shifts.now k 0 ≡ get_or shifts.now 0 0 + k * width }
-{
-    width <= 64 && rise_evenly(shifts, width as u32)
 }
 
 impl PlanAxes {

@@ -34,43 +34,6 @@ impl Model for Plan {
     ghost invariant = { λ p. length (offsets_from p.axes.value) ≡ count p.shape };
 }
 
-/// The place of a rank along the outer axes, the shifts and the inner axes.
-#[derive(Clone, Copy)]
-struct Spot {
-    place: usize,
-    shift: usize,
-    item: usize,
-}
-
-/// The place of a rank, given the number of shifts and of inner items.
-fn spot_at(rank: usize, shifts: usize, inner: usize) -> Spot
-    requires shifts { 0 < shifts }
-    requires inner { 0 < inner }
-    ensures shift { result.shift < shifts }
-    ensures item { result.item < inner }
-    ensures rank { rank ≡ result.place * (shifts * inner) + (result.shift * inner + result.item) }
-{
-    let row = rank / inner;
-    Spot {
-        place: row / shifts,
-        shift: row % shifts,
-        item: rank % inner,
-    }
-}
-
-/// The offset of the item with this rank.
-fn offset_in(axes: &PlanAxes, rank: usize) -> usize
-    requires { rank < length (offsets_from axes.now) }
-    ensures { result ≡ slice_index (offsets_from axes.now) rank }
-{
-    let shifts = axes.shifts.as_slice();
-    let base = axes.inner.offset;
-    let at = spot_at(rank, shifts.len(), axes.inner.shape.items());
-    let place = axes.outer.at_rank(at.place);
-    let start = moved(base, place, shifts[at.shift] as usize);
-    moved(base, start, axes.inner.at_rank(at.item))
-}
-
 /// Whether these are two or more adjacent items of `width` bytes that start at the block's start.
 fn is_packed(layout: &Layout, width: usize) -> bool
     ensures { IsTrue result → offsets layout.now ≡ multiples width (length (offsets layout.now)) }
@@ -137,7 +100,14 @@ impl Plan {
         requires { rank < length self.now.offsets }
         ensures { result ≡ slice_index self.now.offsets rank }
     {
-        offset_in(self.axes(), rank)
+        let axes = self.axes();
+        let base = axes.inner.offset;
+        let shifts = axes.shifts.as_slice();
+        let inner = axes.inner.shape.items();
+        let row = rank / inner;
+        let place = axes.outer.at_rank(row / shifts.len());
+        let start = moved(base, place, shifts[row % shifts.len()] as usize);
+        moved(base, start, axes.inner.at_rank(rank % inner))
     }
 
     /// The items, of `width` bytes, at the offsets, adjacent in a block of their own.

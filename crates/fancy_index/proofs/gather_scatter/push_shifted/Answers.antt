@@ -13,19 +13,19 @@ returns-in-Some-clause-left c = omega (arith, c.in-Some.ensures.size, c.push_sin
 pub push_moved-items-requires-clause-inside : goal.push_moved-items-requires-clause-inside
 push_moved-items-requires-clause-inside c =
     let rows = c.args.rows in
-    let split = split-shifts rows.inner.now.offset (offsets rows.inner.now) rows.place rows.shifts.now c.loop-shift.shift-index c.moved-from.result c.loop-shift-test.true c.moved-from.ensures.value in
+    let split = split-shifts rows.inner.now.offset (offsets rows.inner.now) rows.place rows.shifts.now c.loop-shift.shift-index c.moved-start.result c.loop-shift-test.true c.moved-start.ensures.value in
     (push_front _ _ _ _ _ _ _ _ split c.loop-shift.invariant).inside
 
 pub push_moved-items-requires-clause-room : goal.push_moved-items-requires-clause-room
 push_moved-items-requires-clause-room c =
     let rows = c.args.rows in
-    let split = split-shifts rows.inner.now.offset (offsets rows.inner.now) rows.place rows.shifts.now c.loop-shift.shift-index c.moved-from.result c.loop-shift-test.true c.moved-from.ensures.value in
+    let split = split-shifts rows.inner.now.offset (offsets rows.inner.now) rows.place rows.shifts.now c.loop-shift.shift-index c.moved-start.result c.loop-shift-test.true c.moved-start.ensures.value in
     (push_front _ _ _ _ _ _ _ _ split c.loop-shift.invariant).room
 
 pub loop-shift-preserved : goal.loop-shift-preserved
 loop-shift-preserved c =
     let rows = c.args.rows in
-    let split = split-shifts rows.inner.now.offset (offsets rows.inner.now) rows.place rows.shifts.now c.loop-shift.shift-index c.moved-from.result c.loop-shift-test.true c.moved-from.ensures.value in
+    let split = split-shifts rows.inner.now.offset (offsets rows.inner.now) rows.place rows.shifts.now c.loop-shift.shift-index c.moved-start.result c.loop-shift-test.true c.moved-start.ensures.value in
     pushed_front _ _ _ _ _ _ _ _ _ split c.push_moved-items.ensures.bytes c.push_moved-items.ensures.left c.loop-shift.invariant
 
 pub returns : goal.returns

@@ -7,22 +7,22 @@ pub scatter_moved-at-requires-clause-inside : goal.scatter_moved-at-requires-cla
 scatter_moved-at-requires-clause-inside c =
     let base = c.args.rows.inner.now.offset in
     let inner = offsets c.args.rows.inner.now in
-    let split = split-shifts base inner c.args.rows.place c.args.rows.shifts.now c.loop-shift.shift-index c.moved-to.result c.loop-shift-test.true c.moved-to.ensures.value in
-    (scatter_front _ (map (moved_offset base c.moved-to.result) inner) (shifted_all base (drop (c.loop-shift.shift-index + 1) c.args.rows.shifts.now) inner c.args.rows.place) c.loop-shift.at c.args.source.width _ c.args.source.items.now c.loop-shift.block _ split c.loop-shift.invariant.pass).inside
+    let split = split-shifts base inner c.args.rows.place c.args.rows.shifts.now c.loop-shift.shift-index c.moved-start.result c.loop-shift-test.true c.moved-start.ensures.value in
+    (scatter_front _ (map (moved_offset base c.moved-start.result) inner) (shifted_all base (drop (c.loop-shift.shift-index + 1) c.args.rows.shifts.now) inner c.args.rows.place) c.loop-shift.at c.args.source.width _ c.args.source.items.now c.loop-shift.block _ split c.loop-shift.invariant.pass).inside
 
 pub scatter_moved-at-requires-clause-room : goal.scatter_moved-at-requires-clause-room
 scatter_moved-at-requires-clause-room c =
     let base = c.args.rows.inner.now.offset in
     let inner = offsets c.args.rows.inner.now in
-    let split = split-shifts base inner c.args.rows.place c.args.rows.shifts.now c.loop-shift.shift-index c.moved-to.result c.loop-shift-test.true c.moved-to.ensures.value in
-    (scatter_front _ (map (moved_offset base c.moved-to.result) inner) (shifted_all base (drop (c.loop-shift.shift-index + 1) c.args.rows.shifts.now) inner c.args.rows.place) c.loop-shift.at c.args.source.width _ c.args.source.items.now c.loop-shift.block _ split c.loop-shift.invariant.pass).room
+    let split = split-shifts base inner c.args.rows.place c.args.rows.shifts.now c.loop-shift.shift-index c.moved-start.result c.loop-shift-test.true c.moved-start.ensures.value in
+    (scatter_front _ (map (moved_offset base c.moved-start.result) inner) (shifted_all base (drop (c.loop-shift.shift-index + 1) c.args.rows.shifts.now) inner c.args.rows.place) c.loop-shift.at c.args.source.width _ c.args.source.items.now c.loop-shift.block _ split c.loop-shift.invariant.pass).room
 
 pub loop-shift-preserved : goal.loop-shift-preserved
 loop-shift-preserved c =
     let base = c.args.rows.inner.now.offset in
     let inner = offsets c.args.rows.inner.now in
-    let split = split-shifts base inner c.args.rows.place c.args.rows.shifts.now c.loop-shift.shift-index c.moved-to.result c.loop-shift-test.true c.moved-to.ensures.value in
+    let split = split-shifts base inner c.args.rows.place c.args.rows.shifts.now c.loop-shift.shift-index c.moved-start.result c.loop-shift-test.true c.moved-start.ensures.value in
     record {
-      pass = scattered_front _ (map (moved_offset base c.moved-to.result) inner) (shifted_all base (drop (c.loop-shift.shift-index + 1) c.args.rows.shifts.now) inner c.args.rows.place) c.loop-shift.at c.scatter_moved-at.result c.args.source.width _ c.args.source.items.now c.loop-shift.block c.scatter_moved-at.new.block _ split c.scatter_moved-at.ensures.written c.scatter_moved-at.ensures.len c.scatter_moved-at.ensures.end c.loop-shift.invariant.pass;
+      pass = scattered_front _ (map (moved_offset base c.moved-start.result) inner) (shifted_all base (drop (c.loop-shift.shift-index + 1) c.args.rows.shifts.now) inner c.args.rows.place) c.loop-shift.at c.scatter_moved-at.result c.args.source.width _ c.args.source.items.now c.loop-shift.block c.scatter_moved-at.new.block _ split c.scatter_moved-at.ensures.written c.scatter_moved-at.ensures.len c.scatter_moved-at.ensures.end c.loop-shift.invariant.pass;
       len = c.scatter_moved-at.ensures.len ∙ c.loop-shift.invariant.len;
     }
