@@ -112,9 +112,9 @@ module _ (shape : List ℕ) where
         | false ↦ All-cons (λ r. r < count shape) rank (true_ranks (rank + 1) numbers) (omega (arith, long)) later
       ])
 
-pub mask-part : (axes shape : List ℕ) (numbers : List ℤ) (p : PointList) → bytes_eq shape axes ≡ true → length numbers ≡ count shape → p.lengths.items ≡ length (ranks_of p.ranks) ∷ [] → p.axes.items ≡ shape → are_named p.ranks ≡ true → ranks_of p.ranks ≡ true_ranks 0 numbers → IsPart axes true p (points_of Mask axes shape numbers)
-mask-part axes shape numbers p covers many lengths axes_are named ranks = record {
-  axes = axes_are ∙ (bytes_eq-Decides shape axes).0 covers;
+mask-part : (axes shape : List ℕ) (numbers : List ℤ) (p : PointList) → bytes_eq shape axes ≡ true → length numbers ≡ count shape → p.lengths.items ≡ length (ranks_of p.ranks) ∷ [] → p.axes.items ≡ axes → are_named p.ranks ≡ true → ranks_of p.ranks ≡ true_ranks 0 numbers → IsPart axes true p (points_of Mask axes shape numbers)
+mask-part axes shape numbers p covers many lengths axes_is named ranks = let axes_are = axes_is ∙ sym ((bytes_eq-Decides shape axes).0 covers) in record {
+  axes = axes_is;
   list = record {
     within = subst (All (λ rank. rank < count p.axes.items)) (sym ranks) (rw axes_are (ranks-low shape numbers 0 (omega (arith, many))));
     many = one (length (ranks_of p.ranks)) ∙ sym (ap count lengths);
@@ -133,18 +133,18 @@ mask-part axes shape numbers p covers many lengths axes_are named ranks = record
 
 -- ---- an array
 
-pub part-of_mask : (k : Kind) (axes shape : List ℕ) (numbers : List ℤ) (p : PointList) → k ≡ Mask → covers_kind k shape axes ≡ true → length numbers ≡ count shape → p.lengths.items ≡ length (ranks_of p.ranks) ∷ [] → p.axes.items ≡ shape → are_named p.ranks ≡ true → ranks_of p.ranks ≡ true_ranks 0 numbers →
+pub part-of_mask : (k : Kind) (axes shape : List ℕ) (numbers : List ℤ) (p : PointList) → k ≡ Mask → covers_kind k shape axes ≡ true → length numbers ≡ count shape → p.lengths.items ≡ length (ranks_of p.ranks) ∷ [] → p.axes.items ≡ axes → are_named p.ranks ≡ true → ranks_of p.ranks ≡ true_ranks 0 numbers →
     IsPart axes (are_places k axes numbers) p (points_of k axes shape numbers)
 part-of_mask k axes shape numbers p is covers many lengths axes_are named ranks =
     subst (λ k. IsPart axes (are_places k axes numbers) p (points_of k axes shape numbers)) (sym is) (mask-part axes shape numbers p (sym (ap (λ k. covers_kind k shape axes) is) ∙ covers) many lengths axes_are named ranks)
 
 -- an array of integers has one axis
 pub part-of_integers : (axes shape : List ℕ) (numbers : List ℤ) (p : PointList) (n : ℕ) → length axes ≡ 1 → HavePlaces n numbers → length numbers ≡ count shape → n ≡ get_or axes 0 0 →
-    p.lengths.items ≡ shape → p.axes.items ≡ n ∷ [] → are_named p.ranks ≡ list_all (is_place n) numbers → ranks_of p.ranks ≡ map (rank_on n) numbers → IsPart axes (are_places Integers axes numbers) p (points_of Integers axes shape numbers)
+    p.lengths.items ≡ shape → p.axes.items ≡ axes → are_named p.ranks ≡ list_all (is_place n) numbers → ranks_of p.ranks ≡ map (rank_on n) numbers → IsPart axes (are_places Integers axes numbers) p (points_of Integers axes shape numbers)
 part-of_integers [] shape numbers p n one have many first lengths axes_are named ranks = absurd (omega (arith, one))
 part-of_integers (m ∷ m' ∷ axes) shape numbers p n one have many first lengths axes_are named ranks = absurd (omega (arith, one))
 part-of_integers (m ∷ []) shape numbers p n one have many first lengths axes_are named ranks =
-    integers-part m shape numbers p (subst (λ n. HavePlaces n numbers) first have) many lengths (axes_are ∙ ap (λ n. n ∷ []) first) (named ∙ ap (λ n. list_all (is_place n) numbers) first) (ranks ∙ ap (λ n. map (rank_on n) numbers) first)
+    integers-part m shape numbers p (subst (λ n. HavePlaces n numbers) first have) many lengths axes_are (named ∙ ap (λ n. list_all (is_place n) numbers) first) (ranks ∙ ap (λ n. map (rank_on n) numbers) first)
 
 -- its numbers are tested against that axis
 pub places_tested : (axes : List ℕ) (numbers : List ℤ) (n : ℕ) → length axes ≡ 1 → n ≡ get_or axes 0 0 → are_places Integers axes numbers ≡ list_all (is_place n) numbers

@@ -45,6 +45,27 @@ impl Ranks<'_> {
     }
 }
 
+impl<'a> PointList<'a> {
+    fn try_new(
+        alloc: Global,
+        lengths: &[usize],
+        axes: &[usize],
+        ranks: Ranks<'a>,
+    ) -> Result<PointList<'a>, AllocError>
+        ensures lengths { IfOk result (λ p. p.lengths.items ≡ lengths.now) }
+        ensures axes { IfOk result (λ p. p.axes.items ≡ axes.now) }
+        ensures ranks { IfOk result (λ p. p.ranks ≡ ranks.entry) }
+    {
+        let lengths = SmallVec::from_slice(alloc, lengths)?;
+        let axes = SmallVec::from_slice(alloc, axes)?;
+        Ok(PointList {
+            lengths,
+            axes,
+            ranks,
+        })
+    }
+}
+
 /// The single point of an integer, or its refusal.
 pub(crate) fn integer_point(
     alloc: Global,
@@ -61,61 +82,13 @@ pub(crate) fn integer_point(
     if !is_place(n, at) {
         return Err(Refusal::IndexOutOfRange);
     }
-    let axes = SmallVec::from_slice(alloc, &[n])?;
     let mut ranks = Vec::new(alloc);
     ranks.push(from_front(n, at) as u32)?;
-    Ok(PointList {
-        lengths: SmallVec::new(alloc),
-        axes,
-        ranks: Ranks::Held(ranks),
-    })
+    Ok(PointList::try_new(alloc, &[], &[n], Ranks::Held(ranks))?)
 }
 
-/// The points of an array of integers along an axis of `n` items. The array is not read yet, but if
-/// the axis is empty, any number is refused.
-fn integer_points<'a>(alloc: Global, n: usize, array: Items<'a>) -> Result<PointList<'a>, Refusal>
-    requires small { n ≤ max_items }
-    requires kind { kind_in array ≡ Integers }
-    ensures places { IfOk result (λ _. HavePlaces n (numbers_in array.entry)) }
-    ensures lengths { IfOk result (λ p. p.lengths.items ≡ (index_array_of array.entry).shape) }
-    ensures axes { IfOk result (λ p. p.axes.items ≡ n ∷ []) }
-    ensures named { let test = list_all (is_place n) (numbers_in array.entry) in
-        IfOk result (λ p. are_named p.ranks ≡ test) }
-    ensures ranks { let ranks = map (rank_on n) (numbers_in array.entry) in
-        IfOk result (λ p. ranks_of p.ranks ≡ ranks) }
-    ensures err { IfErr result (IsOutside (list_all (is_place n) (numbers_in array.entry))) }
-{
-    if n == 0 && array.layout.shape.items() > 0 {
-        return Err(Refusal::IndexOutOfRange);
-    }
-    let lengths = SmallVec::from_slice(alloc, array.layout.shape.as_slice())?;
-    let axes = SmallVec::from_slice(alloc, &[n])?;
-    Ok(PointList {
-        lengths,
-        axes,
-        ranks: Ranks::Unread(Named { array, n }),
-    })
-}
-
-/// The points at which a mask is true.
-fn mask_points(alloc: Global, array: Items<'_>) -> Result<PointList<'static>, AllocError>
-    requires kind { kind_in array ≡ Mask }
-    ensures lengths { IfOk result (λ p. p.lengths.items ≡ length (ranks_of p.ranks) ∷ []) }
-    ensures axes { IfOk result (λ p. p.axes.items ≡ (index_array_of array.entry).shape) }
-    ensures named { IfOk result (λ p. are_named p.ranks ≡ true) }
-    ensures ranks { IfOk result (λ p. ranks_of p.ranks ≡ true_ranks 0 (numbers_in array.entry)) }
-{
-    let axes = SmallVec::from_slice(alloc, array.layout.shape.as_slice())?;
-    let ranks = true_ranks(alloc, array)?;
-    let lengths = SmallVec::from_slice(alloc, &[ranks.len()])?;
-    Ok(PointList {
-        lengths,
-        axes,
-        ranks: Ranks::Held(ranks),
-    })
-}
-
-/// The points of an array on the axes that it takes, or the refusal of a number.
+/// The points of an array on the axes that it takes, or the refusal of a number. An array of integers
+/// is not read yet, but if its axis is empty, any number is refused.
 pub(crate) fn array_points<'a>(
     alloc: Global,
     axes: &[usize],
@@ -130,8 +103,19 @@ pub(crate) fn array_points<'a>(
     ensures err { IfErr result (IsOutside (is_within axes.now (array_item array.entry))) }
 {
     match kind(array) {
-        Kind::Mask => Ok(mask_points(alloc, array)?),
-        Kind::Integers => Ok(integer_points(alloc, axes[0], array)?),
+        Kind::Mask => {
+            let ranks = true_ranks(alloc, array)?;
+            Ok(PointList::try_new(alloc, &[ranks.len()], axes, Ranks::Held(ranks))?)
+        }
+        Kind::Integers => {
+            let n = axes[0];
+            if n == 0 && array.layout.shape.items() > 0 {
+                return Err(Refusal::IndexOutOfRange);
+            }
+            let lengths = array.layout.shape.as_slice();
+            let ranks = Ranks::Unread(Named { array, n });
+            Ok(PointList::try_new(alloc, lengths, axes, ranks)?)
+        }
         Kind::NoIndex => unreachable!(),
     }
 }
