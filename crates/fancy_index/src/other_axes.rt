@@ -18,7 +18,8 @@ fn push_zeros(picks: &mut SmallVec<AxisPick, 4>, axes: &[usize]) -> Result<(), A
     Ok(())
 }
 
-fn rest_picks(alloc: Global, parts: &[IndexPart<'_>]) -> Result<SmallVec<AxisPick, 4>, AllocError>
+/// What the parts pick from the axes of a layout, with all points at 0.
+pub(crate) fn rest_picks(alloc: Global, parts: &[IndexPart<'_>]) -> Result<SmallVec<AxisPick, 4>, AllocError>
     ensures { IfOk result (λ v. v.items ≡ rest_picks parts.now) }
 {
     let mut picks = SmallVec::new(alloc);
@@ -32,7 +33,7 @@ fn rest_picks(alloc: Global, parts: &[IndexPart<'_>]) -> Result<SmallVec<AxisPic
     Ok(picks)
 }
 
-/// What the parts pick from the axes of a layout, with all points at 0.
+/// The items of a layout that the parts pick, with all points at 0.
 pub(crate) fn rest(
     alloc: Global,
     layout: &Layout,

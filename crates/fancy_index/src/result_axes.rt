@@ -3,33 +3,19 @@ ghost use Rattle.std.specs.Prelude.{IfOk, OnOk, length, map, ◌++◌, ◌≡◌
 ghost use Rattle.fancy_index.specs.Clauses.{all_axes, are_points, axes_before, axes_of_part, other_axes, points_place, side_by_side, Gives, axis_of, pick_shown, shape_of, shown_part, gone_on};
 
 use crate::index_parts::IndexPart;
+use crate::other_axes::rest_picks;
 use elem_descr::Refusal;
 use shape_strides::Shape;
 use smallvec::SmallVec;
 use std::alloc::{AllocError, Global};
-use view_ops::AxisPick;
-
-fn push_picked(lengths: &mut SmallVec<usize, 4>, pick: AxisPick) -> Result<(), AllocError>
-    ensures { OnOk result (lengths.new.items ≡ lengths.old.items ++ axis_of (pick_shown pick)) }
-{
-    match pick {
-        AxisPick::At(_) => Ok(()),
-        AxisPick::Along(run) => Ok(lengths.push(run.count)?),
-        AxisPick::New => Ok(lengths.push(1)?),
-    }
-}
+use view_ops::{AxisPick, picked_lengths};
 
 /// The lengths of all axes except those of the points.
 fn other_axes(alloc: Global, parts: &[IndexPart<'_>]) -> Result<SmallVec<usize, 4>, AllocError>
     ensures { IfOk result (λ v. v.items ≡ other_axes (map shown_part parts.now)) }
 {
-    let mut lengths = SmallVec::new(alloc);
-    for part in parts {
-        if let IndexPart::Axis(pick) = part {
-            push_picked(&mut lengths, *pick)?;
-        }
-    }
-    Ok(lengths)
+    let picks = rest_picks(alloc, parts)?;
+    picked_lengths(alloc, picks.as_slice())
 }
 
 /// The shape of the result, with the axes of the points at their place among the others, or its
