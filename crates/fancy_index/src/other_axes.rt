@@ -19,7 +19,10 @@ fn push_zeros(picks: &mut SmallVec<AxisPick, 4>, axes: &[usize]) -> Result<(), A
 }
 
 /// What the parts pick from the axes of a layout, with all points at 0.
-pub(crate) fn rest_picks(alloc: Global, parts: &[IndexPart<'_>]) -> Result<SmallVec<AxisPick, 4>, AllocError>
+pub(crate) fn rest_picks(
+    alloc: Global,
+    parts: &[IndexPart<'_>],
+) -> Result<SmallVec<AxisPick, 4>, AllocError>
     ensures { IfOk result (λ v. v.items ≡ rest_picks parts.now) }
 {
     let mut picks = SmallVec::new(alloc);

@@ -1,5 +1,5 @@
 use Rattle.std.proofs.Common.{◌≡◌, inl, inr, [], ◌∷◌, length, get_or, refl, sym, ap, subst, ◌∙◌, arith}
-use Rattle.fancy_index.proofs.Words.{length-map, nil_from_length, IndexOutOfRange, check, count, offsets, length-offsets, Items, kind, axes_of_kind, are_places, points_of, number_from, index_array_of, IsOutside, IsPart, HavePlaces, are_named, ranks_of}
+use Rattle.fancy_index.proofs.Words.{length-map, nil_from_length, IndexOutOfRange, check, count, offsets, length-offsets, Items, kind, axes_of_kind, are_places, points_of, number_from, index_array_of, IsPart, HavePlaces, are_named, ranks_of}
 use Rattle.fancy_index.proofs.PointLaws.{part-of_mask, part-of_integers, places_tested, none-named}
 use Rattle.fancy_index.proofs.points.array_points.Goals as goal
 use Rattle.fancy_index.proofs.points.array_points.Goals.{else-n-eq0-via-then-n-eq0+else-items-gt0, else-n-eq0-via-else-n-eq0}

@@ -1,4 +1,4 @@
-use Rattle.std.proofs.Common.{◌+◌, sym, ap, arith}
+use Rattle.std.proofs.Common.{sym, ap, arith}
 use Rattle.view_ops.proofs.Words.{ints, dot, max_bytes, count, field_of, item_size, rank-lt}
 use Rattle.view_ops.proofs.FieldLaws.{offset-within, gives_field}
 use Rattle.view_ops.proofs.fields.field.Goals as goal

@@ -1,5 +1,5 @@
-use Rattle.std.proofs.Common.{◌≡◌, ◌/◌, ◌%◌, ◌<◌, length, get_or, ap, ◌∙◌, sym, subst, arith, rules}
-use Rattle.fancy_index.proofs.Words.{count, offsets, moved_offset, offsets_from, IsMoved}
+use Rattle.std.proofs.Common.{◌/◌, ◌%◌, ◌<◌, length, get_or, ap, ◌∙◌, sym, subst, arith}
+use Rattle.fancy_index.proofs.Words.{offsets, moved_offset, offsets_from, IsMoved}
 use Rattle.fancy_index.proofs.PlanLaws.{some-shift, some-item, shift-low, place-low, start-moved, item-moved, item-is}
 use Rattle.fancy_index.proofs.plans.Plan.offset.Goals as goal
 use Rattle.fancy_index.proofs.plans.Plan.offset.Goals.{After-items-inner}
