@@ -14,7 +14,7 @@ pub all_offsets : (P : ℕ → Type 0) (l : Layout) → ((index : List ℕ) → 
 unfolding offsets
 all_offsets P l each = All-map P (λ index. natural (address l index)) (indexes l.shape) (all_indexes (λ index. P (natural (address l index))) l.shape each)
 
-flat_map_all : {X Y : Type 0} (f g : X → List Y) (xs : List X) → All (λ x. f x ≡ g x) xs → flat_map f xs ≡ flat_map g xs
+pub flat_map_all : {X Y : Type 0} (f g : X → List Y) (xs : List X) → All (λ x. f x ≡ g x) xs → flat_map f xs ≡ flat_map g xs
 flat_map_all f g [] all = refl
 flat_map_all f g (x ∷ xs) all = λ i. All-head (λ x. f x ≡ g x) x xs all i ++ flat_map_all f g xs (All-tail (λ x. f x ≡ g x) x xs all) i
 

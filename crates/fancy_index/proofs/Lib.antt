@@ -22,6 +22,7 @@ pub mod SizeLaws
 pub mod RankLaws
 pub mod LeadLaws
 pub mod IndexSplits
+pub mod EvenLaws
 pub mod LaidLaws
 pub mod AnswerLaws
 pub mod SumLaws

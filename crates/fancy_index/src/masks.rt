@@ -159,8 +159,10 @@ fn note_all(found: &mut [u32; 512], bools: Bools<'_>, from: usize, end: usize) -
     ensures found { let left = ranks_from bools.entry end in
         take result found.new ++ left ≡ ranks_from bools.entry from }
 {
+    let mut rank = (bools.rank + from) as u32;
     for k in from..end {
-        found[k - from] = (bools.rank + k) as u32;
+        found[k - from] = rank;
+        rank += 1;
     }
     end - from
 }

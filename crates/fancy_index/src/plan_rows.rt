@@ -1,12 +1,13 @@
 //! The axes of a plan, and their items: row by row, or run by run.
 ghost use Rattle.fancy_index.specs.Plans.{put_each};
 ghost use Rattle.std.specs.Prelude.{All, IsTrue, [], get_or, length, map, ℕ, ◌*◌, ◌+◌, ◌<◌, ◌∷◌, ◌≡◌, ◌≤◌};
-ghost use Rattle.fancy_index.specs.Words.{EachWithin, LieWithin, max_bytes, offsets, run_offsets};
+ghost use Rattle.fancy_index.specs.Words.{EachWithin, LieWithin, max_bytes, max_items, offsets, run_offsets};
 ghost use Rattle.fancy_index.specs.inside.Moved.{AllStart, AreStarts, IsMoved, moved_offset};
 
 use arrays::strided;
 use raw_block::RawBlock;
-use shape_strides::{Layout, Run};
+use shape_strides::{Layout, MAX_ITEMS, Run, Shape, Strides};
+use std::alloc::{AllocError, Global};
 
 /// The axes of a plan. Both layouts begin at the item with all points at 0.
 #[derive(Drop)]
@@ -51,21 +52,18 @@ pub(crate) fn moved(base: usize, start: usize, offset: usize) -> usize
     start + offset - base
 }
 
-/// Whether items of `width` bytes at these shifts are adjacent. Wide items gain nothing from it, so
-/// for these it is `false`.
-pub(crate) fn are_adjacent(shifts: &[u32], width: usize) -> bool
+/// With fewer shifts than this, an axis in their place gains nothing.
+const MANY: usize = 128;
+
+/// Whether each shift is the one before it plus a step.
+fn rise_evenly(shifts: &[u32], step: u32) -> bool
     requires some { 1 ≤ length shifts.now }
-    requires few { length shifts.now ≤ 128 }
-    ensures narrow { IsTrue result → width ≤ 64 }
-    ensures even { IsTrue result → (k : ℕ) → k < length shifts.now
-        → get_or shifts.now k 0 ≡ get_or shifts.now 0 0 + k * width }
+    requires few { length shifts.now ≤ max_items }
+    ensures { IsTrue result → (k : ℕ) → k < length shifts.now
+        → get_or shifts.now k 0 ≡ get_or shifts.now 0 0 + k * step }
 {
-    if width > 64 {
-        return false;
-    }
-    let step = width as u32;
     let n = shifts.len();
-    let last = shifts[0] as usize + (n - 1) * width;
+    let last = shifts[0] as usize + (n - 1) * step as usize;
     if shifts[n - 1] as usize != last {
         return false;
     }
@@ -78,9 +76,59 @@ pub(crate) fn are_adjacent(shifts: &[u32], width: usize) -> bool
     even
 }
 
+/// Whether items of `width` bytes at these shifts are adjacent. Wide items gain nothing from it, so
+/// for these it is `false`.
+pub(crate) fn are_adjacent(shifts: &[u32], width: usize) -> bool
+    requires some { 1 ≤ length shifts.now }
+    requires few { length shifts.now ≤ 128 }
+    ensures narrow { IsTrue result → width ≤ 64 }
+    ensures even { IsTrue result → (k : ℕ) → k < length shifts.now
+        → get_or shifts.now k 0 ≡ get_or shifts.now 0 0 + k * width }
+{
+    width <= 64 && rise_evenly(shifts, width as u32)
+}
+
 impl PlanAxes {
     ghost use Rattle.fancy_index.specs.inside.Moved.{shifted_all};
-    ghost use Rattle.fancy_index.specs.inside.Kept.{shifted_offsets};
+    ghost use Rattle.fancy_index.specs.inside.Kept.{AreEven, offsets_from, shifted_offsets};
+    ghost use Rattle.std.specs.Prelude.{IfOk, IfSome};
+
+    /// The step by which the shifts rise, if they are many, rise evenly, and each selects one item.
+    fn even_step(&self) -> Option<u32>
+        ensures { IfSome result (AreEven self.now) }
+    {
+        let shifts = self.shifts.as_slice();
+        let n = shifts.len();
+        if n < MANY || n > MAX_ITEMS || self.inner.shape.items() != 1 {
+            return None;
+        }
+        let step = shifts[1].checked_sub(shifts[0])?;
+        if !rise_evenly(shifts, step) {
+            return None;
+        }
+        Some(step)
+    }
+
+    /// The axes of the same items, with an inner axis in place of the shifts if these rise evenly:
+    /// the items are then copied as a run.
+    pub(crate) fn evened(self, alloc: Global) -> Result<PlanAxes, AllocError>
+        ensures { IfOk result (λ axes. offsets_from axes ≡ offsets_from self) }
+    {
+        let Some(step) = self.even_step() else {
+            return Ok(self);
+        };
+        let shape = Shape::from_lengths(alloc, &[self.shifts.len()])?;
+        let strides = Strides::from_slice(alloc, &[step as isize])?;
+        let Some(inner) = Layout::new(shape, strides, self.inner.offset) else {
+            return Ok(self);
+        };
+        let shifts = vec![in alloc; self.shifts[0]; 1]?;
+        Ok(PlanAxes {
+            outer: self.outer,
+            shifts,
+            inner,
+        })
+    }
 
     /// The items at a place of the outer axes.
     pub(crate) fn rows(&self, place: usize) -> Shifted<'_>

@@ -69,7 +69,7 @@ impl Plan {
             shifts,
             inner,
         };
-        let axes = Box::new(alloc, axes)?;
+        let axes = Box::new(alloc, axes.evened(alloc)?)?;
         Ok(Plan { shape, axes })
     }
 

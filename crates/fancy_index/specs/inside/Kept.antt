@@ -1,6 +1,6 @@
 -- The offsets of the items of a plan.
-use Rattle.std.specs.Prelude.{◌≡◌, ◌+◌, ◌*◌, ◌≤◌, ℕ, List, map, length, get_or, All}
-use Rattle.fancy_index.specs.Words.{assigned, joined_at, row_offsets, offsets, EachWithin, Run, run_offsets}
+use Rattle.std.specs.Prelude.{◌≡◌, ◌+◌, ◌*◌, ◌<◌, ◌≤◌, ℕ, List, map, length, get_or, All}
+use Rattle.fancy_index.specs.Words.{assigned, joined_at, row_offsets, count, offsets, max_items, EachWithin, Run, run_offsets}
 use Rattle.fancy_index.specs.declared.plan_rows.MovedLayout.{MovedLayout}
 use Rattle.fancy_index.specs.declared.plan_rows.PlanAxes.{PlanAxes}
 use Rattle.fancy_index.specs.declared.plan_rows.Shifted.{Shifted}
@@ -20,6 +20,13 @@ shifted_offsets rows = shifted_all rows.inner.now.offset rows.shifts.now (offset
 
 abbrev pub offsets_from : PlanAxes → List ℕ
 offsets_from axes = laid_offsets axes.outer axes.shifts.items axes.inner
+
+-- The shifts rise by a step, and each selects one item.
+pub record AreEven (axes : PlanAxes) (step : ℕ) : Type 0 where
+  pub single : count axes.inner.shape ≡ 1
+  pub some : 1 ≤ length axes.shifts.items
+  pub few : length axes.shifts.items ≤ max_items
+  pub even : (k : ℕ) → k < length axes.shifts.items → get_or axes.shifts.items k 0 ≡ get_or axes.shifts.items 0 0 + k * step
 
 -- the offsets of all items of short rows, and of those at the `k`-th place
 abbrev pub short_offsets : ShortRows → List ℕ

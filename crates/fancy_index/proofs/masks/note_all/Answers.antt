@@ -1,4 +1,4 @@
-use Rattle.std.proofs.Common.{◌≡◌, ◌+◌, ◌-◌, ◌<◌, ◌++◌, length, set, take, ap, ◌∙◌, arith}
+use Rattle.std.proofs.Common.{◌≡◌, ◌+◌, ◌-◌, ◌<◌, ◌++◌, length, set, take, ◌∙◌, arith}
 use Rattle.fancy_index.proofs.Words.{length-set, bools_in, ranks_from}
 use Rattle.fancy_index.proofs.BoolLaws.{noted, length-bools}
 use Rattle.fancy_index.proofs.masks.note_all.Goals as goal
@@ -10,10 +10,11 @@ loop-k-preserved c =
     let more : c.loop-k.k + 1 - c.args.from ≡ many + 1 = omega (arith, c.loop-k.invariant.from) in
     let room : many < length c.loop-k.found = omega (arith, c.loop-k-test.true, c.requires.few, c.loop-k.invariant.size) in
     record {
-      size = length-set c.loop-k.found many (bools.rank + c.loop-k.k) ∙ c.loop-k.invariant.size;
+      size = length-set c.loop-k.found many c.loop-k.rank ∙ c.loop-k.invariant.size;
       from = omega (arith, c.loop-k.invariant.from);
       low = omega (arith, c.loop-k-test.true);
-      noted = ap (λ n. take n (set c.loop-k.found many (bools.rank + c.loop-k.k)) ++ ranks_from bools (c.loop-k.k + 1)) more
+      rank = omega (arith, c.loop-k.invariant.rank);
+      noted = (λ i. take (more i) (set c.loop-k.found many (c.loop-k.invariant.rank i)) ++ ranks_from bools (c.loop-k.k + 1))
           ∙ noted (bools_in bools) c.loop-k.found _ bools.rank many c.loop-k.k 1 (omega arith) (omega (arith, c.loop-k-test.true, c.requires.end, length-bools bools)) room
           (c.requires.all c.loop-k.k c.loop-k.invariant.from c.loop-k-test.true) c.loop-k.invariant.noted;
     }

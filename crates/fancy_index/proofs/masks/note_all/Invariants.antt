@@ -7,5 +7,6 @@ invariant-loop-k l = record {
   size : length l.found ≡ 512;
   from : l.from ≤ l.k;
   low : l.k ≤ l.end;
+  rank : l.rank ≡ l.bools.rank + l.k;
   noted : take (l.k - l.from) l.found ++ true_ranks (l.bools.rank + l.k) (drop l.k (bools_in l.bools)) ≡ true_ranks (l.bools.rank + l.from) (drop l.from (bools_in l.bools));
 }
