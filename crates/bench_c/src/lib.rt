@@ -14,6 +14,7 @@ mod open_bench;
 mod parts;
 mod status;
 
+use copying::{copy_if_any, copy_out};
 use handle::Handle;
 use open_bench::OpenBench;
 use status::Status;
@@ -76,7 +77,7 @@ pub extern "C" fn bench_c_reply(
     ensures kept { handle.new.value ≡ handle.old.value }
 {
     let bench = mem::replace(handle, Handle::closed(alloc)).into_box();
-    let status = bench.copy_reply(out, len);
+    let status = copy_out(bench.reply.as_slice(), out, len);
     *handle = Handle::of(bench);
     status.code()
 }
@@ -115,7 +116,7 @@ pub extern "C" fn bench_c_get(
     ensures kept { handle.new.value ≡ handle.old.value }
 {
     let bench = mem::replace(handle, Handle::closed(alloc)).into_box();
-    let status = bench.copy_file(name, out, len);
+    let status = copy_if_any(bench.files.bytes_of(name), out, len);
     *handle = Handle::of(bench);
     status.code()
 }
@@ -135,7 +136,7 @@ pub extern "C" fn bench_c_file(
     ensures kept { handle.new.value ≡ handle.old.value }
 {
     let bench = mem::replace(handle, Handle::closed(alloc)).into_box();
-    let status = bench.copy_next_name(after, out, len);
+    let status = copy_if_any(bench.files.next_name(after), out, len);
     *handle = Handle::of(bench);
     status.code()
 }

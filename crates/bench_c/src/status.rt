@@ -28,15 +28,6 @@ impl Status {
     pub fn code(self) -> u8
         ensures { result ≡ code_of self }
     {
-        match self {
-            Status::Done => 0,
-            Status::Refused => 1,
-            Status::Silent => 2,
-            Status::NoMemory => 3,
-            Status::TooLong => 4,
-            Status::NoFile => 5,
-            Status::NoRoom => 6,
-            Status::Invalid => 7,
-        }
+        self as u8
     }
 }
