@@ -150,14 +150,13 @@ fn options(alloc: Global, words: &[String]) -> Result<Options, OptionsFault>
     };
     let depth = matches.get_one::<u8>("undo").unwrap_or(DEPTH);
     let dir = matches.get_str("dir").unwrap_or(THIS_FOLDER);
-    let script = match matches.get_str("script") {
-        Some(text) => Some(String::from_str(alloc, text)?),
-        None => None,
-    };
+    let script = matches.get_str("script");
     Ok(Options {
         depth: usize::from(depth),
         dir: String::from_str(alloc, dir)?,
-        script,
+        script: script
+            .map(|text| String::from_str(alloc, text))
+            .transpose()?,
     })
 }
 
