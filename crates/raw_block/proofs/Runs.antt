@@ -1,6 +1,6 @@
 -- Adjacent items, whose bytes are written as one range.
-use Rattle.std.proofs.Common.{◌≡◌, ℕ, zero, suc, ◌+◌, ◌-◌, ◌*◌, ◌<◌, ◌≤◌, List, [], ◌∷◌, ◌++◌, length, take, drop, get_or, inr, refl, sym, ap, ◌∙◌, subst, arith, append_assoc, length-append, length-take, drop-cons, ℤ, pos}
-use Rattle.raw_block.proofs.Words.{suc-mul, mul-suc, mul-zero, mul-le-mul_left, take-add, drop-append-add, take-append-drop, drop-drop, drop-take, take-take, drop_all, first_chunks, place, EachWithin, put, item_at, copied, filled, traded, place_within, length-item_at, item_at-put_apart, item_of_chunks}
+use Rattle.std.proofs.Common.{◌≡◌, ℕ, zero, suc, ◌+◌, ◌-◌, ◌*◌, ◌<◌, ◌≤◌, List, [], ◌++◌, length, take, drop, get_or, inr, refl, sym, ap, ◌∙◌, subst, arith, append_assoc, length-append, length-take, ℤ, pos}
+use Rattle.raw_block.proofs.Words.{suc-mul, mul-suc, mul-zero, mul-le-mul_left, take-add, drop-append-add, take-append-drop, drop-drop, drop-take, take-take, first_chunks, place, EachWithin, put, item_at, copied, filled, traded, joined, joined-same, place_within, length-item_at, item_at-put_apart, item_of_chunks}
 use Rattle.std.proofs.lemmas.List.{take_at}
 
 -- all of the items lie within `len` bytes
@@ -73,16 +73,6 @@ module _ (a b width : ℕ) where
       ∙ (λ i. (put_next a b m width other bytes in_a in_b i, put_next b a m width bytes other in_b in_a i))
       ∙ (λ i. (put a (item_at b (sym more i) other) bytes, put b (item_at a (sym more i) bytes) other))
 
--- eight bytes, one by one
-front : {rest : List ℕ} (item : List ℕ) (k : ℕ) → k < length item → rest ≡ drop (suc k) item → get_or item k 0 ∷ rest ≡ drop k item
-front item k lt is = ap (λ l. get_or item k 0 ∷ l) is ∙ sym (drop-cons item k 0 lt)
-
-pub eight_bytes : (item : List ℕ) → 8 ≤ length item → length item < 9
-    → get_or item 0 0 ∷ get_or item 1 0 ∷ get_or item 2 0 ∷ get_or item 3 0 ∷ get_or item 4 0 ∷ get_or item 5 0 ∷ get_or item 6 0 ∷ get_or item 7 0 ∷ [] ≡ item
-eight_bytes item low high =
-    front item 0 (omega arith) (front item 1 (omega arith) (front item 2 (omega arith) (front item 3 (omega arith) (front item 4 (omega arith) (front item 5 (omega arith)
-    (front item 6 (omega arith) (front item 7 (omega arith) (sym (drop_all 8 item (omega arith))))))))))
-
 pub item_of_run : (width at n m k : ℕ) (bytes : List ℕ) (run : List (List ℕ)) → run ≡ first_chunks width m (take (at + width * n - at) (drop at bytes)) → n ≤ m → k < n → get_or run k [] ≡ item_at (at + width * k) width bytes
 item_of_run width at n m k bytes run is enough lt =
     let here = width * k in let left = width * n - here in let within : width * suc k ≤ width * n = mul-le-mul_left width lt in
@@ -95,6 +85,9 @@ item_of_run width at n m k bytes run is enough lt =
 -- copies of one item
 same_place : (at k : ℕ) → place at (pos 0) k ≡ at
 same_place at k = let none : k * 0 ≡ 0 = mul-zero k in omega (arith, none)
+
+pub joined-one : (item : List ℕ) (at : ℕ) (step : ℤ) (width n : ℕ) (other : List ℕ) → item ≡ item_at at width other → step ≡ pos 0 → joined (λ _. item) n ≡ joined (λ k. item_at (place at step k) width other) n
+joined-one item at step width n other is none = joined-same (λ _. item) (λ k. item_at (place at step k) width other) n (λ k _. is ∙ ap (λ p. item_at p width other) (sym (same_place at k) ∙ ap (λ s. place at s k) (sym none)))
 
 pub copied-one : (dst : ℕ) (step : ℤ) (other : List ℕ) (src width n : ℕ) (bytes : List ℕ) → filled dst step (item_at src width other) n bytes ≡ copied dst step other src (pos 0) width n bytes
 copied-one dst step other src width zero bytes = refl

@@ -14,6 +14,7 @@ pub use Rattle.raw_block.specs.Words.{Lft, Ptr, Ty, add-mul, block_ptr, bytes, b
 pub use Rattle.raw_block.specs.contracts.base.Bytes.{the_row as R, the_type}
 pub use Rattle.raw_block.specs.contracts.base.allocate.{clauses, ended}
 pub use Rattle.raw_block.specs.contracts.base.allocate.Key.{name as #self}
+pub use Rattle.raw_block.specs.inside.Appends.{AreAppended}
 pub use Rattle.raw_block.specs.inside.Bands.{band}
 pub use Rattle.raw_block.specs.inside.Lends.{with_items}
 pub use Rattle.raw_block.specs.inside.Pairs.{LieApart}

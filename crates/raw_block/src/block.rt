@@ -106,7 +106,8 @@ impl RawBlock {
         ensures numbers { (k : ℕ) → k < n → slice_index_or result k (pos 0)
             ≡ signed_number 4 (item_at (at + 4 * k) 4 self.now) }
     {
-        RunI32::over(items_at::<4>(self.bytes(), at, n))
+        let items = items_at::<4>(self.bytes(), at, n);
+        RunI32 { items }
     }
 
     /// Numbers of four bytes, for writing. Each is stored with its lowest byte first.
@@ -131,7 +132,8 @@ impl RawBlock {
         ensures numbers { (k : ℕ) → k < n → slice_index_or result k (pos 0)
             ≡ signed_number 8 (item_at (at + 8 * k) 8 self.now) }
     {
-        RunI64::over(items_at::<8>(self.bytes(), at, n))
+        let items = items_at::<8>(self.bytes(), at, n);
+        RunI64 { items }
     }
 
     /// Numbers of eight bytes, for writing. Each is stored with its lowest byte first.

@@ -19,7 +19,7 @@ pub(crate) fn items_at<const N: usize>(bytes: &[u8], at: usize, n: usize) -> &[[
 /// Numbers of four bytes, for reading. A contract sees them as a list.
 #[derive(Drop)]
 pub struct RunI32<'a> {
-    items: &'a [[u8; 4]],
+    pub(crate) items: &'a [[u8; 4]],
 }
 
 impl<'a> Model for RunI32<'a> {
@@ -31,22 +31,7 @@ impl<'a> Model for RunI32<'a> {
     ghost view = { λ r. signed_numbers 4 r.items.now };
 }
 
-impl<'a> RunI32<'a> {
-    /// The numbers that these bytes store.
-    pub(crate) fn over(items: &'a [[u8; 4]]) -> RunI32<'a>
-        ensures { result ≡ signed_numbers 4 items.now }
-    {
-        RunI32 { items }
-    }
-
-    /// How many numbers there are.
-    #[inline(always)]
-    pub fn len(&self) -> usize
-        ensures { result ≡ length self.now }
-    {
-        self.items.len()
-    }
-
+impl RunI32<'_> {
     /// The number at this index.
     #[inline(always)]
     pub fn get(&self, place: usize) -> i32
@@ -61,7 +46,7 @@ impl<'a> RunI32<'a> {
 /// Numbers of eight bytes, for reading. A contract sees them as a list.
 #[derive(Drop)]
 pub struct RunI64<'a> {
-    items: &'a [[u8; 8]],
+    pub(crate) items: &'a [[u8; 8]],
 }
 
 impl<'a> Model for RunI64<'a> {
@@ -73,22 +58,7 @@ impl<'a> Model for RunI64<'a> {
     ghost view = { λ r. signed_numbers 8 r.items.now };
 }
 
-impl<'a> RunI64<'a> {
-    /// The numbers that these bytes store.
-    pub(crate) fn over(items: &'a [[u8; 8]]) -> RunI64<'a>
-        ensures { result ≡ signed_numbers 8 items.now }
-    {
-        RunI64 { items }
-    }
-
-    /// How many numbers there are.
-    #[inline(always)]
-    pub fn len(&self) -> usize
-        ensures { result ≡ length self.now }
-    {
-        self.items.len()
-    }
-
+impl RunI64<'_> {
     /// The number at this index.
     #[inline(always)]
     pub fn get(&self, place: usize) -> i64

@@ -1,6 +1,7 @@
-use Rattle.std.proofs.Common.{◌+◌, ◌*◌, ◌++◌, length, sym, ap, ◌∙◌, length-append, arith}
-use Rattle.raw_block.proofs.Words.{joined_run}
-use Rattle.raw_block.proofs.Runs.{run_within}
+use Rattle.std.proofs.Common.{◌≡◌, ◌*◌, pos, length, sym, ap, ◌∙◌, w64, rules}
+use Rattle.raw_block.proofs.Words.{joined_run, to_z-of_z, SFits, to_z}
+use Rattle.raw_block.proofs.Runs.{run_within, joined-one}
+use Rattle.raw_block.proofs.Appends.{said_otherwise}
 use Rattle.raw_block.proofs.pushing.push_items.Goals as goal
 
 pub part-requires : goal.part-requires
@@ -8,19 +9,15 @@ part-requires c =
     let items = c.args.items in
     run_within (length c.args.other.now) items.steps.at items.steps.step items.width items.count c.if-count-gt0.true (c.is_adjacent.ensures c.if-is_adjacent.true) c.requires.source
 
-pub returns-then-is_adjacent-clause-items : goal.returns-then-is_adjacent-clause-items
-returns-then-is_adjacent-clause-items c =
+pub returns-then-is_adjacent : goal.returns-then-is_adjacent
+returns-then-is_adjacent c =
     let items = c.args.items in
-    c.push_bytes.ensures.items ∙ ap (λ l. c.args.bytes.now.items ++ l) (c.part.ensures.value ∙ joined_run items.steps.at items.steps.step items.width items.count c.args.other.now (c.is_adjacent.ensures c.if-is_adjacent.true))
+    said_otherwise _ (items.count * items.width) _ _ _ _ c.push_bytes.ensures c.part.ensures.len
+    (c.part.ensures.value ∙ joined_run items.steps.at items.steps.step items.width items.count c.args.other.now (c.is_adjacent.ensures c.if-is_adjacent.true))
 
-pub returns-then-is_adjacent-clause-count : goal.returns-then-is_adjacent-clause-count
-returns-then-is_adjacent-clause-count c = ap length c.push_bytes.ensures.items ∙ length-append c.args.bytes.now.items c.part.result.now ∙ omega (arith, c.requires.from, c.part.ensures.len)
-
-pub returns-then-is_adjacent-clause-left : goal.returns-then-is_adjacent-clause-left
-returns-then-is_adjacent-clause-left c = omega (arith, c.push_bytes.ensures.left, c.part.ensures.len)
-
-pub returns-then-steps-eq0-clause-count : goal.returns-then-steps-eq0-clause-count
-returns-then-steps-eq0-clause-count c = c.push_repeated.ensures.count ∙ ap (λ m. c.args.from + c.args.items.count * m) c.part-then-steps-eq0.ensures.len
-
-pub returns-then-steps-eq0-clause-left : goal.returns-then-steps-eq0-clause-left
-returns-then-steps-eq0-clause-left c = ap (λ m. c.args.items.count * m + c.push_repeated.new.bytes.room) (sym c.part-then-steps-eq0.ensures.len) ∙ c.push_repeated.ensures.left
+pub returns-then-steps-eq0 : goal.returns-then-steps-eq0
+returns-then-steps-eq0 c =
+    let items = c.args.items in let step = items.steps.step in let fits : SFits w64 step = search rules in
+    let none : step ≡ pos 0 = sym (to_z-of_z w64 step fits) ∙ ap (to_z w64) c.if-steps-eq0.true in
+    said_otherwise _ (items.count * items.width) _ _ _ _ c.push_repeated.ensures (ap (λ m. items.count * m) c.part-then-steps-eq0.ensures.len)
+    (joined-one c.part-then-steps-eq0.result.now items.steps.at step items.width items.count c.args.other.now c.part-then-steps-eq0.ensures.value none)
