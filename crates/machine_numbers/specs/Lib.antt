@@ -1,3 +1,4 @@
 pub mod Bits
 pub mod Kinds
+pub mod NumberLaws
 pub mod Sides

@@ -38,7 +38,7 @@ pub trait Ordered {
 /// The bytes of a slice, in a single load: read one by one, they keep loops from using vector
 /// instructions.
 #[inline(always)]
-fn array<const N: usize>(bytes: &[u8]) -> [u8; N]
+pub(crate) fn array<const N: usize>(bytes: &[u8]) -> [u8; N]
     requires { length bytes.now ≡ N }
     ensures { result ≡ bytes.now }
 {

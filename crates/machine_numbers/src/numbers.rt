@@ -7,12 +7,11 @@ ghost use Rattle.elem_descr.specs.declared.scalar.Width.TheVariants.{Two, Four, 
 ghost use Rattle.elem_descr.specs.declared.scalar.Scalar.TheVariants.{Bool as BoolScalar, Byte, Int};
 ghost use Rattle.elem_descr.specs.Values.{number};
 ghost use Rattle.elem_descr.specs.Encoding.{IsNumber, size, decode, encode, wrap, integer};
-ghost use Rattle.std.proofs.Common.{arith, inl, inr};
-ghost use Rattle.std.proofs.lemmas.Bool.{false≢true};
 ghost use Rattle.machine_numbers.specs.Kinds.{is_bool, little};
 ghost use Rattle.machine_numbers.specs.Bits.{AreBits};
+ghost use Rattle.machine_numbers.specs.NumberLaws.{AreNumbers, of_bool, of_byte, of_int};
 
-use crate::byte_orders::Ordered;
+use crate::byte_orders::{Ordered, array};
 use raw_block::BlockBuilder;
 
 /// A number that the processor computes with: a bool, or an integer of 1, 2, 4 or 8 bytes.
@@ -43,10 +42,16 @@ pub trait Number: Copy {
         ensures value { decode (scalar O.order) bytes.new ≡ number (value self) };
 
     /// Appends a number to a block, in a single store.
+    #[inline(always)]
     fn push<O: Ordered>(self, block: &mut BlockBuilder)
         requires { WIDTH ≤ block.old.1 }
         ensures bytes { block.new.0 ≡ block.old.0 ++ encode (scalar O.order) (number (value self)) }
-        ensures left { WIDTH + block.new.1 ≡ block.old.1 };
+        ensures left { WIDTH + block.new.1 ≡ block.old.1 }
+    {
+        let mut item = [0; 8];
+        self.write::<O>(&mut item[..Self::WIDTH]);
+        push_item(block, &item[..Self::WIDTH]);
+    }
 
     /// The lowest 64 bits. The bits above the number's own are copies of its sign.
     fn bits(self) -> u64
@@ -58,8 +63,16 @@ pub trait Number: Copy {
         ensures { (order : Order) (z : ℤ) → AreBits bits z → value result ≡ wrap (scalar order) z };
 
     /// Whether it is less than another number.
+    #[inline(always)]
     fn is_less(self, other: Self) -> bool
-        ensures { result ≡ int_lt (value self) (value other) };
+        ensures { result ≡ int_lt (value self) (value other) }
+    {
+        let (left, right) = (self.bits(), other.bits());
+        if Self::SIGNED {
+            return left.cast_signed() < right.cast_signed();
+        }
+        left < right
+    }
 
     /// Whether the numbers are bools.
     #[inline(always)]
@@ -69,16 +82,34 @@ pub trait Number: Copy {
         false
     }
 
-    ghost is_number: { (order : Order) → IsNumber (scalar order) };
+    ghost laws: { AreNumbers value scalar WIDTH };
 
-    ghost has_width: { (order : Order) → size (scalar order) ≡ WIDTH };
+    ghost is_number: { (order : Order) → IsNumber (scalar order) } = { laws.is_number };
 
-    ghost is_small: { (1 ≤ WIDTH) × (WIDTH ≤ 8) };
+    ghost has_width: { (order : Order) → size (scalar order) ≡ WIDTH } = { laws.has_width };
 
-    ghost is_little: { (order : Order) → little (scalar order) ≡ scalar Little };
+    ghost is_small: { (1 ≤ WIDTH) × (WIDTH ≤ 8) } = { laws.is_small };
+
+    ghost is_little: { (order : Order) → little (scalar order) ≡ scalar Little } = { laws.is_little };
 
     ghost is_truth: { (order : Order) (x : Self) → is_bool (scalar order) ≡ true
-        → (value x ≡ pos 0) ⊎ (value x ≡ pos 1) };
+        → (value x ≡ pos 0) ⊎ (value x ≡ pos 1) } = { laws.is_truth };
+}
+
+/// Appends an item of 1, 2, 4 or 8 bytes in a single store.
+#[inline(always)]
+fn push_item(block: &mut BlockBuilder, item: &[u8])
+    requires { length item.now ≤ block.old.1 }
+    ensures bytes { block.new.0 ≡ block.old.0 ++ item.now }
+    ensures left { length item.now + block.new.1 ≡ block.old.1 }
+{
+    match item.len() {
+        1 => block.push_array::<1>(array::<1>(item)),
+        2 => block.push_array::<2>(array::<2>(item)),
+        4 => block.push_array::<4>(array::<4>(item)),
+        8 => block.push_array::<8>(array::<8>(item)),
+        _ => block.push_bytes(item),
+    }
 }
 
 impl Number for bool {
@@ -94,15 +125,7 @@ impl Number for bool {
 
     ghost SIGNED = { false };
 
-    ghost is_number = { λ order. tt };
-
-    ghost has_width = { λ order. refl };
-
-    ghost is_small = { (Prim.omega arith, Prim.omega arith) };
-
-    ghost is_little = { λ order. refl };
-
-    ghost is_truth = { λ order. elim [ true ↦ λ _. inr refl | false ↦ λ _. inl refl ] };
+    ghost laws = { of_bool };
 
     fn read<O: Ordered>(bytes: &[u8]) -> bool {
         bytes[0] != 0
@@ -112,23 +135,12 @@ impl Number for bool {
         bytes[0] = u8::from(self);
     }
 
-    #[inline(always)]
-    fn push<O: Ordered>(self, block: &mut BlockBuilder) {
-        let mut item = [0; 1];
-        self.write::<O>(&mut item);
-        block.push_array::<1>(item);
-    }
-
     fn bits(self) -> u64 {
         u64::from(self)
     }
 
     fn of_bits(bits: u64) -> bool {
         bits != 0
-    }
-
-    fn is_less(self, other: bool) -> bool {
-        !self & other
     }
 
     fn are_bools() -> bool {
@@ -149,15 +161,7 @@ impl Number for u8 {
 
     ghost SIGNED = { false };
 
-    ghost is_number = { λ order. tt };
-
-    ghost has_width = { λ order. refl };
-
-    ghost is_small = { (Prim.omega arith, Prim.omega arith) };
-
-    ghost is_little = { λ order. refl };
-
-    ghost is_truth = { λ order x is. absurd (false≢true is) };
+    ghost laws = { of_byte false };
 
     fn read<O: Ordered>(bytes: &[u8]) -> u8 {
         bytes[0]
@@ -167,23 +171,12 @@ impl Number for u8 {
         bytes[0] = self;
     }
 
-    #[inline(always)]
-    fn push<O: Ordered>(self, block: &mut BlockBuilder) {
-        let mut item = [0; 1];
-        self.write::<O>(&mut item);
-        block.push_array::<1>(item);
-    }
-
     fn bits(self) -> u64 {
         u64::from(self)
     }
 
     fn of_bits(bits: u64) -> u8 {
         (bits % 256) as u8
-    }
-
-    fn is_less(self, other: u8) -> bool {
-        self < other
     }
 }
 
@@ -200,15 +193,7 @@ impl Number for i8 {
 
     ghost SIGNED = { true };
 
-    ghost is_number = { λ order. tt };
-
-    ghost has_width = { λ order. refl };
-
-    ghost is_small = { (Prim.omega arith, Prim.omega arith) };
-
-    ghost is_little = { λ order. refl };
-
-    ghost is_truth = { λ order x is. absurd (false≢true is) };
+    ghost laws = { of_byte true };
 
     fn read<O: Ordered>(bytes: &[u8]) -> i8 {
         bytes[0].cast_signed()
@@ -218,23 +203,12 @@ impl Number for i8 {
         bytes[0] = self.cast_unsigned();
     }
 
-    #[inline(always)]
-    fn push<O: Ordered>(self, block: &mut BlockBuilder) {
-        let mut item = [0; 1];
-        self.write::<O>(&mut item);
-        block.push_array::<1>(item);
-    }
-
     fn bits(self) -> u64 {
         i64::from(self).cast_unsigned()
     }
 
     fn of_bits(bits: u64) -> i8 {
         ((bits % 256) as u8).cast_signed()
-    }
-
-    fn is_less(self, other: i8) -> bool {
-        self < other
     }
 }
 
@@ -251,15 +225,7 @@ impl Number for u16 {
 
     ghost SIGNED = { false };
 
-    ghost is_number = { λ order. tt };
-
-    ghost has_width = { λ order. refl };
-
-    ghost is_small = { (Prim.omega arith, Prim.omega arith) };
-
-    ghost is_little = { λ order. refl };
-
-    ghost is_truth = { λ order x is. absurd (false≢true is) };
+    ghost laws = { of_int false Two };
 
     fn read<O: Ordered>(bytes: &[u8]) -> u16 {
         O::read_two(bytes)
@@ -269,23 +235,12 @@ impl Number for u16 {
         O::write_two(self, bytes);
     }
 
-    #[inline(always)]
-    fn push<O: Ordered>(self, block: &mut BlockBuilder) {
-        let mut item = [0; 2];
-        self.write::<O>(&mut item);
-        block.push_array::<2>(item);
-    }
-
     fn bits(self) -> u64 {
         u64::from(self)
     }
 
     fn of_bits(bits: u64) -> u16 {
         (bits % 65_536) as u16
-    }
-
-    fn is_less(self, other: u16) -> bool {
-        self < other
     }
 }
 
@@ -302,15 +257,7 @@ impl Number for i16 {
 
     ghost SIGNED = { true };
 
-    ghost is_number = { λ order. tt };
-
-    ghost has_width = { λ order. refl };
-
-    ghost is_small = { (Prim.omega arith, Prim.omega arith) };
-
-    ghost is_little = { λ order. refl };
-
-    ghost is_truth = { λ order x is. absurd (false≢true is) };
+    ghost laws = { of_int true Two };
 
     fn read<O: Ordered>(bytes: &[u8]) -> i16 {
         O::read_two(bytes).cast_signed()
@@ -320,23 +267,12 @@ impl Number for i16 {
         O::write_two(self.cast_unsigned(), bytes);
     }
 
-    #[inline(always)]
-    fn push<O: Ordered>(self, block: &mut BlockBuilder) {
-        let mut item = [0; 2];
-        self.write::<O>(&mut item);
-        block.push_array::<2>(item);
-    }
-
     fn bits(self) -> u64 {
         i64::from(self).cast_unsigned()
     }
 
     fn of_bits(bits: u64) -> i16 {
         ((bits % 65_536) as u16).cast_signed()
-    }
-
-    fn is_less(self, other: i16) -> bool {
-        self < other
     }
 }
 
@@ -353,15 +289,7 @@ impl Number for u32 {
 
     ghost SIGNED = { false };
 
-    ghost is_number = { λ order. tt };
-
-    ghost has_width = { λ order. refl };
-
-    ghost is_small = { (Prim.omega arith, Prim.omega arith) };
-
-    ghost is_little = { λ order. refl };
-
-    ghost is_truth = { λ order x is. absurd (false≢true is) };
+    ghost laws = { of_int false Four };
 
     fn read<O: Ordered>(bytes: &[u8]) -> u32 {
         O::read_four(bytes)
@@ -371,23 +299,12 @@ impl Number for u32 {
         O::write_four(self, bytes);
     }
 
-    #[inline(always)]
-    fn push<O: Ordered>(self, block: &mut BlockBuilder) {
-        let mut item = [0; 4];
-        self.write::<O>(&mut item);
-        block.push_array::<4>(item);
-    }
-
     fn bits(self) -> u64 {
         u64::from(self)
     }
 
     fn of_bits(bits: u64) -> u32 {
         (bits % 4_294_967_296) as u32
-    }
-
-    fn is_less(self, other: u32) -> bool {
-        self < other
     }
 }
 
@@ -404,15 +321,7 @@ impl Number for i32 {
 
     ghost SIGNED = { true };
 
-    ghost is_number = { λ order. tt };
-
-    ghost has_width = { λ order. refl };
-
-    ghost is_small = { (Prim.omega arith, Prim.omega arith) };
-
-    ghost is_little = { λ order. refl };
-
-    ghost is_truth = { λ order x is. absurd (false≢true is) };
+    ghost laws = { of_int true Four };
 
     fn read<O: Ordered>(bytes: &[u8]) -> i32 {
         O::read_four(bytes).cast_signed()
@@ -422,23 +331,12 @@ impl Number for i32 {
         O::write_four(self.cast_unsigned(), bytes);
     }
 
-    #[inline(always)]
-    fn push<O: Ordered>(self, block: &mut BlockBuilder) {
-        let mut item = [0; 4];
-        self.write::<O>(&mut item);
-        block.push_array::<4>(item);
-    }
-
     fn bits(self) -> u64 {
         i64::from(self).cast_unsigned()
     }
 
     fn of_bits(bits: u64) -> i32 {
         ((bits % 4_294_967_296) as u32).cast_signed()
-    }
-
-    fn is_less(self, other: i32) -> bool {
-        self < other
     }
 }
 
@@ -455,15 +353,7 @@ impl Number for u64 {
 
     ghost SIGNED = { false };
 
-    ghost is_number = { λ order. tt };
-
-    ghost has_width = { λ order. refl };
-
-    ghost is_small = { (Prim.omega arith, Prim.omega arith) };
-
-    ghost is_little = { λ order. refl };
-
-    ghost is_truth = { λ order x is. absurd (false≢true is) };
+    ghost laws = { of_int false Eight };
 
     fn read<O: Ordered>(bytes: &[u8]) -> u64 {
         O::read_eight(bytes)
@@ -473,23 +363,12 @@ impl Number for u64 {
         O::write_eight(self, bytes);
     }
 
-    #[inline(always)]
-    fn push<O: Ordered>(self, block: &mut BlockBuilder) {
-        let mut item = [0; 8];
-        self.write::<O>(&mut item);
-        block.push_array::<8>(item);
-    }
-
     fn bits(self) -> u64 {
         self
     }
 
     fn of_bits(bits: u64) -> u64 {
         bits
-    }
-
-    fn is_less(self, other: u64) -> bool {
-        self < other
     }
 }
 
@@ -506,15 +385,7 @@ impl Number for i64 {
 
     ghost SIGNED = { true };
 
-    ghost is_number = { λ order. tt };
-
-    ghost has_width = { λ order. refl };
-
-    ghost is_small = { (Prim.omega arith, Prim.omega arith) };
-
-    ghost is_little = { λ order. refl };
-
-    ghost is_truth = { λ order x is. absurd (false≢true is) };
+    ghost laws = { of_int true Eight };
 
     fn read<O: Ordered>(bytes: &[u8]) -> i64 {
         O::read_eight(bytes).cast_signed()
@@ -524,22 +395,11 @@ impl Number for i64 {
         O::write_eight(self.cast_unsigned(), bytes);
     }
 
-    #[inline(always)]
-    fn push<O: Ordered>(self, block: &mut BlockBuilder) {
-        let mut item = [0; 8];
-        self.write::<O>(&mut item);
-        block.push_array::<8>(item);
-    }
-
     fn bits(self) -> u64 {
         self.cast_unsigned()
     }
 
     fn of_bits(bits: u64) -> i64 {
         bits.cast_signed()
-    }
-
-    fn is_less(self, other: i64) -> bool {
-        self < other
     }
 }
