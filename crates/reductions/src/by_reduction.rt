@@ -11,32 +11,19 @@ use machine_numbers::{LowFirst, Number, NumberTask, Ordered, little};
 use raw_block::{BlockBuilder, RawBlock};
 use std::alloc::{AllocError, Global};
 
-/// The 64-bit integer of a sum: signed, unless the items are unsigned integers.
-fn wide(scalar: &Scalar) -> Scalar
-    ensures { result ≡ wide scalar.now }
-{
-    let signed = match scalar {
-        Scalar::Byte { signed } => *signed,
-        Scalar::Int { signed, .. } => *signed,
-        _ => true,
-    };
-    Scalar::Int {
-        signed,
-        width: Width::Eight,
-        order: Order::Little,
-    }
-}
-
-/// The type of a result.
+/// The type of a result. That of a sum is signed, unless the items are unsigned integers.
 pub(crate) fn result_scalar(reduction: Red, scalar: &Scalar) -> Scalar
     ensures { result ≡ result_scalar reduction scalar.now }
 {
+    let signed = match (reduction, scalar) {
+        (Red::Sum | Red::Product, Scalar::Byte { signed } | Scalar::Int { signed, .. }) => *signed,
+        _ => true,
+    };
     match reduction {
-        Red::Sum | Red::Product => wide(scalar),
         Red::Minimum | Red::Maximum => little(scalar),
         Red::Any | Red::All => Scalar::Bool,
-        Red::ArgMin | Red::ArgMax => Scalar::Int {
-            signed: true,
+        _ => Scalar::Int {
+            signed,
             width: Width::Eight,
             order: Order::Little,
         },

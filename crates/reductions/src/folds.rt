@@ -220,40 +220,33 @@ impl<S: Number, const ALL: bool> Fold<S> for Truth<ALL> {
     }
 }
 
-/// The best number so far, and its first place.
+/// The best number so far, and its first place, or that of the block that contains it.
 #[derive(Clone, Copy)]
 pub(crate) struct Found<S> {
     best: S,
     place: usize,
 }
 
-/// The best number so far, and how many numbers come before the block that contains it.
-#[derive(Clone, Copy)]
-struct Sought<S> {
-    best: S,
-    before: usize,
-}
-
 /// How many numbers are visited together. Only one block is then searched for the place of the best.
 const BLOCK: usize = 512;
 
-/// Visits the numbers of a block, which has `before` numbers before it.
+/// Visits the numbers of a block that begins at a place. The best number has the place of its block.
 #[inline(always)]
 fn seek_in<S: Number, O: Ordered, const GREATEST: bool>(
-    held: Sought<S>,
-    before: usize,
+    held: Found<S>,
+    place: usize,
     block: Side<'_>,
-) -> Sought<S>
+) -> Found<S>
     requires width { block.width ≡ S.WIDTH }
     requires few { block.run.count < 2 ^ 63 }
     ensures { HasSought GREATEST (numbers_of (S.scalar O.order) block.entry)
-        (S.value held.best) held.before before (S.value result.best) result.before }
+        (S.value held.best) held.place place (S.value result.best) result.place }
 {
     let best = fold_each::<S, O, Best<GREATEST>>(held.best, 0, block);
     if !is_better::<S, GREATEST>(best, held.best) {
         return held;
     }
-    Sought { best, before }
+    Found { best, place }
 }
 
 /// The place of the best number.
@@ -300,22 +293,20 @@ impl<S: Number, const GREATEST: bool> Fold<S> for PlaceOf<GREATEST> {
 
     fn fold_together<O: Ordered>(held: Found<S>, seen: usize, side: Side<'_>) -> Option<Found<S>> {
         let all = side.run.count;
-        let mut sought = Sought {
-            best: held.best,
-            before: all,
-        };
+        let mut sought = held;
+        sought.place = all;
         let mut done = 0;
         while done < all {
             let block = part(side, done, BLOCK.min(all - done));
             sought = seek_in::<S, O, GREATEST>(sought, done, block);
             done += block.run.count;
         }
-        let Sought { best, before } = sought;
-        if before == all {
+        let Found { best, place } = sought;
+        if place == all {
             return Some(held);
         }
-        let block = part(side, before, BLOCK.min(all - before));
-        let place = seen + before + place_of::<S, O>(best, block);
+        let block = part(side, place, BLOCK.min(all - place));
+        let place = seen + place + place_of::<S, O>(best, block);
         Some(Found { best, place })
     }
 

@@ -14,5 +14,5 @@ loop-done-preserved g c =
     record {
       fits = omega (arith, counted, c.min.ensures, c.loop-done-test.true);
       sought = sought-next greatest scalar s c.part-block.result c.args.seen (g.S.Number.value c.args.held.best) c.args.held.place done c.part-block.result.run.count c.loop-done-test.true
-          (subst (λ m. IsPart done m s c.part-block.result) least c.part-block.ensures) (counted ∙ least) (g.S.Number.value c.loop-done.sought.best) (g.S.Number.value c.seek_in-sought.result.best) c.loop-done.sought.before c.seek_in-sought.result.before c.loop-done.invariant.sought c.seek_in-sought.ensures;
+          (subst (λ m. IsPart done m s c.part-block.result) least c.part-block.ensures) (counted ∙ least) (g.S.Number.value c.loop-done.sought.best) (g.S.Number.value c.seek_in-sought.result.best) c.loop-done.sought.place c.seek_in-sought.result.place c.loop-done.invariant.sought c.seek_in-sought.ensures;
     }

@@ -6,7 +6,7 @@ use Rattle.reductions.proofs.folds.PlaceOfFold.fold_together.Given as goal
 abbrev pub invariant-loop-done : goal.invariant-loop-done
 invariant-loop-done g l = record {
   fits : l.done ≤ l.side.run.count;
-  sought : AreSought (not (nat_eq g.row.GREATEST 0)) (g.S.Number.scalar g.O.Ordered.order) l.side l.seen (g.S.Number.value l.initial.held.best) l.initial.held.place l.done (g.S.Number.value l.sought.best) l.sought.before;
+  sought : AreSought (not (nat_eq g.row.GREATEST 0)) (g.S.Number.scalar g.O.Ordered.order) l.side l.seen (g.S.Number.value l.initial.held.best) l.initial.held.place l.done (g.S.Number.value l.sought.best) l.sought.place;
 }
 
 abbrev pub decreases-loop-done : goal.decreases-loop-done
