@@ -48,11 +48,9 @@ struct Bands<'a> {
 
 /// The most bytes of an item's text.
 fn item_room(items: &Items<'_>) -> usize {
-    let mut room = items.descr.size() * 4;
-    for width in items.widths {
-        room = room.saturating_add(*width).saturating_add(16);
-    }
-    room
+    let room = items.descr.size() * 4;
+    let wider = |room: usize, width: &usize| room.saturating_add(*width).saturating_add(16);
+    items.widths.iter().fold(room, wider)
 }
 
 /// The most bytes of the text of an axis whose blocks have at most `room` bytes.
@@ -68,18 +66,14 @@ fn axis_room(room: usize, layout: &Layout, axis: usize) -> usize
 /// The most bytes of an item whose text is made again in each band if stride 0 repeats it.
 const SHORT_ITEM: usize = 64;
 
-/// Whether long items are repeated. If so, the text is made whole, so that each item is read once.
-fn repeats_long_items(items: &Items<'_>, layout: &Layout) -> bool {
-    items.descr.size() > SHORT_ITEM && layout.strides.as_slice().contains(&0)
-}
-
 /// The first axis with blocks that are made whole, since each fits into a band, and the most bytes
 /// of such a block. If there is no such axis, each item is made whole.
 fn small_blocks(items: &Items<'_>, layout: &Layout) -> (usize, usize)
     ensures { result.0 ≤ length layout.now.shape }
 {
     let mut room = item_room(items);
-    if repeats_long_items(items, layout) {
+    // If long items are repeated, the text is made whole, so that each item is read once.
+    if items.descr.size() > SHORT_ITEM && layout.strides.as_slice().contains(&0) {
         return (0, room);
     }
     let mut small = layout.shape.rank();

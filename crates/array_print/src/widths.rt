@@ -82,23 +82,6 @@ struct ShownItems<'a> {
     descr: &'a Descr,
 }
 
-/// The number of steps along an axis that lead to different items. All steps of stride 0 lead to
-/// the same items.
-fn different_steps(lengths: &[usize], strides: &[isize], axis: usize) -> usize
-    requires axis { axis < length lengths.now }
-    requires one_each { length strides.now ≡ length lengths.now }
-    requires some { 0 < slice_index_or lengths.now axis 0 }
-    ensures few { result ≤ slice_index_or lengths.now axis 0 }
-    ensures all { (result ≡ slice_index_or lengths.now axis 0)
-        ⊎ ((result ≡ 1) × (slice_index_or strides.now axis (pos 0) ≡ pos 0)) }
-{
-    if repeats(strides, axis) {
-        1
-    } else {
-        lengths[axis]
-    }
-}
-
 /// Widens the widths for the items that the axes from `axis` on lead to, starting at an offset.
 /// Items that stride 0 repeats are measured once.
 fn widen_part(widths: &mut [usize], items: ShownItems<'_>, axis: usize, offset: usize)
@@ -116,7 +99,13 @@ fn widen_part(widths: &mut [usize], items: ShownItems<'_>, axis: usize, offset: 
         return;
     }
     let strides = items.layout.strides.as_slice();
-    for k in 0..different_steps(lengths, strides, axis) {
+    // All steps of stride 0 lead to the same items.
+    let steps = if repeats(strides, axis) {
+        1
+    } else {
+        lengths[axis]
+    };
+    for k in 0..steps {
         widen_part(
             widths,
             items,
