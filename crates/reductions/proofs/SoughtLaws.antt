@@ -1,5 +1,5 @@
 -- The place of the best number is looked up in the last block that has a better number.
-use Rattle.std.proofs.Common.{◌≡◌, ◌+◌, ◌-◌, ◌<◌, ◌⊎◌, inl, inr, ℕ, ℤ, Bool, List, ◌++◌, length, min, refl, sym, ap, subst, ◌∙◌, arith, append_assoc, length-append, append-nil}
+use Rattle.std.proofs.Common.{◌≡◌, ◌+◌, ◌-◌, ◌<◌, ◌⊎◌, inl, inr, ℕ, ℤ, Bool, List, ◌++◌, length, min, refl, sym, ap, subst, ◌∙◌, arith, append_assoc, length-append}
 use Rattle.reductions.proofs.Words.{fold, fold-append, Scalar, Side, place, run_offsets, first_place, numbers_at, numbers_of, IsPart, better, is_better, HasFound, HasSought, better_same, better_taken, better_passed}
 use Rattle.reductions.proofs.LineLaws.{front, part_numbers, length-numbers}
 

@@ -70,10 +70,10 @@ loop-k-preserved t c =
     record {
       few = c.loop-k.invariant.few;
       wide = λ seen is. c.widen_part.ensures (seen ++ take (k * inner) offsets) (c.loop-k.invariant.wide seen is)
-    ∙ ap (λ os. wide ((seen ++ take (k * inner) offsets) ++ os)) (sym (part-block l c.args.axis c.args.offset _ _ below c.requires.part k c.step_along.result low is_at))
-    ∙ ap wide (append_assoc seen (take (k * inner) offsets) (take inner (drop (k * inner) offsets)))
-    ∙ ap (λ os. wide (seen ++ os)) (sym (take-add (k * inner) inner offsets))
-    ∙ ap (λ m. wide (seen ++ take m offsets)) more;
+          ∙ ap (λ os. wide ((seen ++ take (k * inner) offsets) ++ os)) (sym (part-block l c.args.axis c.args.offset _ _ below c.requires.part k c.step_along.result low is_at))
+          ∙ ap wide (append_assoc seen (take (k * inner) offsets) (take inner (drop (k * inner) offsets)))
+          ∙ ap (λ os. wide (seen ++ os)) (sym (take-add (k * inner) inner offsets))
+          ∙ ap (λ m. wide (seen ++ take m offsets)) more;
     }
 
 pub returns : goal.returns
