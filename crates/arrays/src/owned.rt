@@ -36,8 +36,7 @@ impl Owned {
             return Err(Refusal::TooLarge);
         }
         let block = RawBlock::try_zeroed(alloc, len)?;
-        let owned = Owned::over(alloc, descr, shape, MemoryOrder::C, block)?;
-        Ok(owned)
+        Ok(Owned::over(alloc, descr, shape, MemoryOrder::C, block)?)
     }
 
     /// An array over a block that has exactly the size of its items.

@@ -1,6 +1,6 @@
 //! The items of a layout, adjacent in a block of their own.
 ghost use Rattle.std.specs.Prelude.{All, IfOk, IsTrue, length, pos, ◌*◌, ◌++◌, ◌+◌, ◌<◌, ◌^◌, ◌≡◌, ◌≤◌};
-ghost use Rattle.arrays.specs.Clauses.{assigned, items_at, joined_at, row_offsets, EachWithin, is_c_contiguous, item_at, multiples, offsets, run_offsets, grid_of, flat_map};
+ghost use Rattle.arrays.specs.Clauses.{assigned, items_at, joined_at, row_offsets, EachWithin, is_c_contiguous, item_at, multiples, offsets, run_offsets, grid_of};
 
 use crate::copies::{copy_run, strided};
 use raw_block::{BlockBuilder, Grid, RawBlock};
@@ -33,45 +33,6 @@ pub fn push_run(items: &mut BlockBuilder, block: &RawBlock, run: Run, width: usi
     items.push_strided(block, strided(run, width));
 }
 
-/// Appends the items, of `width` bytes, of runs to a block, one after another.
-pub(crate) fn push_runs(items: &mut BlockBuilder, runs: Runs<'_>, block: &RawBlock, width: usize)
-    requires from { All (λ run.
-        EachWithin (length block.now) run.offset run.step width run.count) runs }
-    requires room { length (flat_map run_offsets runs) * width ≤ items.old.1 }
-    ensures bytes { items.new.0 ≡ items.old.0
-        ++ joined_at (flat_map run_offsets runs.entry) width block.now }
-    ensures left { length (flat_map run_offsets runs.entry) * width + items.new.1 ≡ items.old.1 }
-{
-    for run in runs {
-        push_run(items, block, run, width);
-    }
-}
-
-/// Copies adjacent items from the start of a block to the items of runs.
-fn scatter_runs(block: &mut RawBlock, runs: Runs<'_>, items: &RawBlock, width: usize)
-    requires some { All (λ run. 1 ≤ run.count) runs }
-    requires to { All (λ run.
-        EachWithin (length block.old) run.offset run.step width run.count) runs }
-    requires room { length (flat_map run_offsets runs) * width ≤ length items.now }
-    ensures written { block.new
-        ≡ assigned (flat_map run_offsets runs.entry)
-        (row_offsets 0 width (length (flat_map run_offsets runs.entry))) width items.now block.old }
-    ensures len { length block.new ≡ length block.old }
-{
-    let len = items.len();
-    let mut at = 0;
-    for run in runs {
-        copy_run(
-            block,
-            run,
-            items,
-            packed_run(at, width, run.count, len),
-            width,
-        );
-        at += run.count * width;
-    }
-}
-
 /// The `len` bytes that start at `at`.
 fn stretch(bytes: &[u8], at: usize, len: usize) -> &[u8]
     requires { at + len ≤ length bytes.now }
@@ -81,50 +42,8 @@ fn stretch(bytes: &[u8], at: usize, len: usize) -> &[u8]
     &bytes[at..at + len]
 }
 
-/// `gather` for adjacent items: they are copied as one range.
-fn gather_whole(
-    alloc: Global,
-    block: &RawBlock,
-    layout: &Layout,
-    width: usize,
-) -> Result<RawBlock, AllocError>
-    requires order { IsTrue (is_c_contiguous width (offsets layout.now)) }
-    requires inside { All (λ offset. offset + width ≤ length block.now) (offsets layout.now) }
-    ensures len { IfOk result (λ items. length items ≡ length (offsets layout.now) * width) }
-    ensures items { IfOk result
-        (λ items. items_at (multiples width (length (offsets layout.now))) width items
-        ≡ items_at (offsets layout.now) width block.now) }
-{
-    // For the prover alone: the block is within its limit.
-    let _len = block.len();
-    let len = layout.shape.items().saturating_mul(width);
-    let whole = stretch(block.bytes(), layout.first_address(), len);
-    RawBlock::try_copied(alloc, whole)
-}
-
-/// `gather` for all other items: run by run, or by columns.
-fn gather_each(
-    alloc: Global,
-    block: &RawBlock,
-    layout: &Layout,
-    width: usize,
-) -> Result<RawBlock, AllocError>
-    requires inside { All (λ offset. offset + width ≤ length block.now) (offsets layout.now) }
-    ensures len { IfOk result (λ items. length items ≡ length (offsets layout.now) * width) }
-    ensures items { IfOk result
-        (λ items. items_at (multiples width (length (offsets layout.now))) width items
-        ≡ items_at (offsets layout.now) width block.now) }
-{
-    // More bytes than a block can have are refused like any others that cannot be allocated.
-    let bytes = layout.shape.items().saturating_mul(width);
-    let mut items = BlockBuilder::try_new(alloc, bytes)?;
-    // For the prover alone: the number of bytes is within the limit of a block.
-    let _filled = items.filled();
-    push_layout(&mut items, layout, block, width);
-    Ok(items.finish())
-}
-
-/// The items, of `width` bytes, of a layout, adjacent and in C order in a block of their own.
+/// The items, of `width` bytes, of a layout, adjacent and in C order in a block of their own. They
+/// are copied as one range if they are adjacent in the layout, and run by run or by columns if not.
 pub fn gather(
     alloc: Global,
     block: &RawBlock,
@@ -137,10 +56,19 @@ pub fn gather(
         (λ items. items_at (multiples width (length (offsets layout.now))) width items
         ≡ items_at (offsets layout.now) width block.now) }
 {
+    // More bytes than a block can have are refused like any others that cannot be allocated.
+    let bytes = layout.shape.items().saturating_mul(width);
     if layout.is_c(width) {
-        return gather_whole(alloc, block, layout, width);
+        // For the prover alone: the block is within its limit.
+        let _len = block.len();
+        let whole = stretch(block.bytes(), layout.first_address(), bytes);
+        return RawBlock::try_copied(alloc, whole);
     }
-    gather_each(alloc, block, layout, width)
+    let mut items = BlockBuilder::try_new(alloc, bytes)?;
+    // For the prover alone: the number of bytes is within the limit of a block.
+    let _filled = items.filled();
+    push_layout(&mut items, layout, block, width);
+    Ok(items.finish())
 }
 
 /// Copies adjacent items of `width` bytes from the start of a block to the items of a layout, in C
@@ -153,7 +81,13 @@ pub fn scatter(block: &mut RawBlock, layout: &Layout, items: &RawBlock, width: u
         (multiples width (length (offsets layout.now))) width items.now block.old }
     ensures len { length block.new ≡ length block.old }
 {
-    scatter_runs(block, Runs::new(layout), items, width);
+    let len = items.len();
+    let mut at = 0;
+    for run in Runs::new(layout) {
+        let from = packed_run(at, width, run.count, len);
+        copy_run(block, run, items, from, width);
+        at += run.count * width;
+    }
 }
 
 /// Fewer rows than this are copied one by one.
@@ -216,6 +150,10 @@ pub(crate) fn push_layout(items: &mut BlockBuilder, layout: &Layout, block: &Raw
         4 if goes_by_columns(layout) => push_grids::<4>(items, layout, block),
         8 if goes_by_columns(layout) => push_grids::<8>(items, layout, block),
         16 if goes_by_columns(layout) => push_grids::<16>(items, layout, block),
-        _ => push_runs(items, Runs::new(layout), block, width),
+        _ => {
+            for run in Runs::new(layout) {
+                push_run(items, block, run, width);
+            }
+        }
     }
 }

@@ -1,6 +1,6 @@
 -- Items of a layout that are all moved by the same number of bytes, in the order of their addresses.
-use Rattle.std.proofs.Common.{◌≡◌, ◌+◌, ◌-◌, ◌<◌, ◌≤◌, ◌⊎◌, inl, inr, ℕ, ℤ, pos, ◌+ℤ◌, List, length, get_or, All, Contains, sym, ap, subst, ◌∙◌, arith}
-use Rattle.overlap_copy.proofs.Words.{cases_lt, ints, length-map, get_or-map, get_or_default, item_at, Layout, max_bytes, max_items, rank, IsIndex, count, offsets, Fits, IsNested, distance, IsRising, IsFalling, index_at, length-offsets, pos-offset, offsets_within, entry-first, assigned, IsAssigned, source, sources, MayCome}
+use Rattle.std.proofs.Common.{◌≡◌, ◌+◌, ◌-◌, ◌<◌, ◌≤◌, ◌⊎◌, inl, inr, ℕ, ℤ, pos, ◌+ℤ◌, List, length, get_or, All, Contains, Bool, true, false, nat_lt, sym, ap, subst, ◌∙◌, arith}
+use Rattle.overlap_copy.proofs.Words.{cases_lt, ints, length-map, get_or-map, get_or_default, item_at, Layout, max_bytes, max_items, rank, IsIndex, count, offsets, Fits, IsNested, distance, IsRising, IsFalling, IsInOrder, ltb-true, index_at, length-offsets, pos-offset, offsets_within, entry-first, assigned, IsAssigned, source, sources, MayCome}
 use Rattle.shape_strides.specs.Layouts.{dot}
 use Rattle.overlap_copy.proofs.MoveLaws.{same_assigned, assigned_is}
 
@@ -28,11 +28,15 @@ offset-within l = elim (cases_lt 0 (count l.shape)) [
 
 -- ---- items in the order of their addresses do not overlap
 
-pub nested-rising : (order : List ℕ) (width : ℕ) → IsRising width order → IsNested order width
+nested-rising : (order : List ℕ) (width : ℕ) → IsRising width order → IsNested order width
 nested-rising order width rising = record { apart = λ j k before below. let above = rising.apart j k before below in omega (arith, above) }
 
-pub nested-falling : (order : List ℕ) (width : ℕ) → IsFalling width order → IsNested order width
+nested-falling : (order : List ℕ) (width : ℕ) → IsFalling width order → IsNested order width
 nested-falling order width falling = record { apart = λ j k before below. let under = falling.apart j k before below in omega (arith, under) }
+
+pub nested-in_order : (order : List ℕ) (width : ℕ) (down : Bool) → IsInOrder down width order → IsNested order width
+nested-in_order order width false rising = nested-rising order width rising
+nested-in_order order width true falling = nested-falling order width falling
 
 -- ---- layouts of the same shape and strides
 
@@ -117,10 +121,16 @@ module _ (dst src : Layout) (shape : src.shape ≡ dst.shape) (strides : src.str
         unread = unread;
       }
 
-  pub come-rising : (order : List ℕ) (len width : ℕ) → length order ≤ max_items → All (Contains (offsets dst)) order → Fits dst len width → Fits src len width → dst.offset ≤ src.offset → IsRising width order → MayCome len width dst.offset src.offset order
+  come-rising : (order : List ℕ) (len width : ℕ) → length order ≤ max_items → All (Contains (offsets dst)) order → Fits dst len width → Fits src len width → dst.offset ≤ src.offset → IsRising width order → MayCome len width dst.offset src.offset order
   come-rising order len width few only fits fits' ahead rising =
       come-from order len width few only fits fits' (nested-rising order width rising) (λ j k before below. let above = rising.apart j k before below in omega (arith, above, ahead))
 
-  pub come-falling : (order : List ℕ) (len width : ℕ) → length order ≤ max_items → All (Contains (offsets dst)) order → Fits dst len width → Fits src len width → src.offset < dst.offset → IsFalling width order → MayCome len width dst.offset src.offset order
+  come-falling : (order : List ℕ) (len width : ℕ) → length order ≤ max_items → All (Contains (offsets dst)) order → Fits dst len width → Fits src len width → src.offset < dst.offset → IsFalling width order → MayCome len width dst.offset src.offset order
   come-falling order len width few only fits fits' behind falling =
       come-from order len width few only fits fits' (nested-falling order width falling) (λ j k before below. let under = falling.apart j k before below in omega (arith, under, behind))
+
+  -- in falling order if the items move up, and in rising order otherwise
+  pub come-in_order : (order : List ℕ) (len width : ℕ) (down : Bool) → down ≡ nat_lt src.offset dst.offset → IsInOrder down width order → length order ≤ max_items → All (Contains (offsets dst)) order → Fits dst len width → Fits src len width
+      → MayCome len width dst.offset src.offset order
+  come-in_order order len width false is rising few only fits fits' = come-rising order len width few only fits fits' (omega (arith, is)) rising
+  come-in_order order len width true is falling few only fits fits' = come-falling order len width few only fits fits' (ltb-true src.offset dst.offset (sym is)) falling

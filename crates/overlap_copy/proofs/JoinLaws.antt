@@ -1,6 +1,6 @@
 -- Laws of joined axes.
 use Rattle.std.proofs.Common.{◌≡◌, ℕ, zero, suc, ◌+◌, ◌-◌, ◌*◌, ◌/◌, ◌%◌, ◌<◌, ◌≤◌, inl, inr, List, [], ◌∷◌, length, get_or, set, take, drop, sum_by, length-drop, sym, subst, ap, refl, ◌∙◌, arith, mul_assoc, mul-add, mul-le-mul_left, zero-mul}
-use Rattle.overlap_copy.proofs.Words.{mod-lt, IsPermutation, cases_lt, drop_more, drop-set, take_all, All-cons, All-tail, All-drop, sum_by-cons, IsPermutation-sym, All-permutation, sum_by-IsPermutation, div-add-mod, Axis, IsIndex, reach, lengths_in, reached, reordered, reach_of, max_reach, AreForward, HasSum, GoesOn, SameSums, AreJoined}
+use Rattle.overlap_copy.proofs.Words.{mod-lt, IsPermutation, cases_lt, drop_more, drop-set, take_all, All-cons, All-tail, All-drop, sum_by-cons, IsPermutation-sym, All-permutation, sum_by-IsPermutation, div-add-mod, Axis, IsIndex, reach, lengths_in, reached, reordered, reach_of, max_reach, AreForward, HasSum, SameSums, AreJoined}
 
 -- ---- lists of axes with the same sums
 
@@ -85,6 +85,11 @@ parted q wide narrow z some items below = elim (cases_lt z (q * (wide - 1))) [
           is = whole;
         }
 
+-- a step of the wide axis is a whole number of steps of the narrow one, and at most as many as the narrow one has items
+pub record GoesOn (wide narrow : Axis) : Type 0 where
+  pub times : wide.step ≡ narrow.step * (wide.step / narrow.step)
+  pub items : wide.step / narrow.step ≤ narrow.len
+
 abbrev pub join : Axis → Axis → Axis
 join wide narrow = record { step = narrow.step; len = wide.step / narrow.step * (wide.len - 1) + narrow.len }
 
@@ -105,10 +110,10 @@ join_from wide narrow axes some on (z ∷ index) in' =
     let sum : narrow.step * (q * parts.x + parts.y) ≡ wide.step * parts.x + narrow.step * parts.y = steps_of narrow.step q parts.x parts.y ∙ ap (λ n. n * parts.x + narrow.step * parts.y) (sym on.times) in
     (parts.x ∷ parts.y ∷ index, (parts.below, (parts.below', in'.1)), omega (arith, sum, ap (λ n. narrow.step * n) parts.is))
 
-pub join-same : (wide narrow : Axis) (axes : List Axis) → 0 < wide.len → GoesOn wide narrow → SameSums (wide ∷ narrow ∷ axes) (join wide narrow ∷ axes)
+join-same : (wide narrow : Axis) (axes : List Axis) → 0 < wide.len → GoesOn wide narrow → SameSums (wide ∷ narrow ∷ axes) (join wide narrow ∷ axes)
 join-same wide narrow axes some on = same_leads (wide ∷ narrow ∷ axes) (join wide narrow ∷ axes) (join_to wide narrow axes on) (join_from wide narrow axes some on)
 
-pub join-reach : (wide narrow : Axis) → 0 < narrow.len → GoesOn wide narrow → reach (join wide narrow) ≡ reach wide + reach narrow
+join-reach : (wide narrow : Axis) → 0 < narrow.len → GoesOn wide narrow → reach (join wide narrow) ≡ reach wide + reach narrow
 join-reach wide narrow some on =
     let q = wide.step / narrow.step in
     let x = wide.len - 1 in
@@ -138,15 +143,18 @@ narrow_some wide axes from d below are = first_some (get_or axes from d) (drop (
 
 -- ---- an axis before others
 
-pub put_joined : (wide both : Axis) (axes : List Axis) (from : ℕ) (d : Axis) → from < length axes → AreForward (wide ∷ drop from axes) → both.step ≡ (get_or axes from d).step → 0 < both.len → reach both ≡ reach wide + reach (get_or axes from d) → SameSums (wide ∷ get_or axes from d ∷ drop (from + 1) axes) (both ∷ drop (from + 1) axes) → AreJoined (wide ∷ drop from axes) (drop from (set axes from both))
-put_joined wide both axes from d below are step len far same =
+pub put_joined : (wide : Axis) (axes : List Axis) (from : ℕ) (d : Axis) → from < length axes → AreForward (wide ∷ drop from axes) → GoesOn wide (get_or axes from d) → AreJoined (wide ∷ drop from axes) (drop from (set axes from (join wide (get_or axes from d))))
+put_joined wide axes from d below are on =
     let narrow = get_or axes from d in
     let rest = drop (from + 1) axes in
+    let both = join wide narrow in
     let split : wide ∷ drop from axes ≡ wide ∷ narrow ∷ rest = ap (λ l. wide ∷ l) (drop_more axes from d below) in
     let near = behind wide axes from d below are in
+    let some = first_some narrow rest near in
+    let far = join-reach wide narrow some.1 on in
     let sum : reach wide + (reach narrow + reach_of rest) ≤ max_reach = omega (arith, are.near, ap reach_of split) in
-    let forward = forward_cons both rest (omega (arith, step, (first_some narrow rest near).0)) len (forward_tail narrow rest near) (omega (arith, sum, far)) in
-    let joined : AreJoined (wide ∷ narrow ∷ rest) (both ∷ rest) = record { forward = forward; reach = omega (arith, far); same = same } in
+    let forward = forward_cons both rest some.0 (omega (arith, some.1)) (forward_tail narrow rest near) (omega (arith, sum, far)) in
+    let joined : AreJoined (wide ∷ narrow ∷ rest) (both ∷ rest) = record { forward = forward; reach = omega (arith, far); same = join-same wide narrow rest (wide_some wide (drop from axes) are) on } in
     subst (λ l. AreJoined l (drop from (set axes from both))) (sym split) (subst (AreJoined (wide ∷ narrow ∷ rest)) (sym (drop-set axes from both below)) joined)
 
 -- ---- the axes from one on

@@ -5,7 +5,7 @@ pub use Rattle.overlap_copy.specs.Runs.{IsRun}
 pub use Rattle.overlap_copy.specs.Words.{Axis, BeginsWithin, Fits, IsNested, IsPermutation, IsStacked, LieWithin, assigned, copied_within, count, flat_map, item_pairs, items_at, joined_at, list_any, max_axes, max_bytes, max_items, multiples, reach, run_offsets, with_items}
 unfoldable pub use Rattle.overlap_copy.specs.Words.{offsets}
 pub use Rattle.overlap_copy.specs.declared.axis_sums.Answer.TheVariants.{No, Yes}
-pub use Rattle.overlap_copy.specs.inside.Joins.{AreJoined, GoesOn, SameSums}
+pub use Rattle.overlap_copy.specs.inside.Joins.{AreJoined}
 pub use Rattle.overlap_copy.specs.inside.Marks.{IsMarkedUpTo, holds_byte, is_end_marked, is_marked}
 pub use Rattle.overlap_copy.specs.inside.Moves.{AreAlike, IsAssigned, IsLine, IsTurned, LieApart, RunLies, firsts, place_in, seconds}
 pub use Rattle.overlap_copy.specs.inside.Shifts.{MayCome, source_run, sources}

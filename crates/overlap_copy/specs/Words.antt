@@ -10,7 +10,7 @@ pub use Rattle.elem_descr.specs.Steps.{numbers_from}
 pub use Rattle.raw_block.specs.Bytes.{EachWithin, copied_within, exchanged, item_at, place, position, put, swapped, traded}
 pub use Rattle.raw_block.specs.BytesLaws.{begins_within, byte_of, fewer, get_or-put_after, get_or-put_before, item_at-put_apart, item_at-put_same, length-item_at, length-put, not_negative, place_within, position-add}
 pub use Rattle.raw_block.specs.ExchangeLaws.{exchanged-items, exchanged-outside, length-exchanged}
-pub use Rattle.shape_strides.specs.AddressOrders.{IsFalling, IsRising}
+pub use Rattle.shape_strides.specs.AddressOrders.{IsFalling, IsInOrder, IsRising}
 pub use Rattle.shape_strides.specs.Addresses.{LieWithin, address_at, dot, natural}
 pub use Rattle.shape_strides.specs.CountLaws.{factors_pos, times_of}
 pub use Rattle.shape_strides.specs.IndexLaws.{index_at, length-indexes}

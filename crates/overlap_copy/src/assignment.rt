@@ -3,9 +3,7 @@ ghost use Rattle.std.specs.Prelude.{◌≡◌, ◌+◌, ◌≤◌, ℤ, length, 
 ghost use Rattle.overlap_copy.specs.Clauses.{IsPermutation, max_bytes, count, offsets, Fits, IsNested, item_pairs, assigned, AreApart, IsRun, have_common_byte};
 
 use crate::apart::may_overlap;
-use crate::pair_copies::{
-    as_runs, copy_pairs, have_same_step, is_same_line, move_pairs, move_run, turn_run, turned,
-};
+use crate::pair_copies::{as_runs, move_apart, move_run, turn_run, turned};
 use arrays::{copy_run, gather, scatter};
 use raw_block::RawBlock;
 use shape_strides::{Layout, LayoutPair, RunPairs, in_memory_order};
@@ -21,9 +19,12 @@ fn assign_in_order(block: &mut RawBlock, dst: &Layout, other: &RawBlock, src: &L
         ≡ assigned (offsets dst.now) (offsets src.now) width other.now block.old }
     ensures len { length block.new ≡ length block.old }
 {
-    match as_runs(dst, src) {
-        Some(pair) => copy_run(block, pair.first, other, pair.second, width),
-        None => copy_pairs(block, RunPairs::new(dst, src), other, width),
+    if let Some(pair) = as_runs(dst, src) {
+        copy_run(block, pair.first, other, pair.second, width);
+        return;
+    }
+    for pair in RunPairs::new(dst, src) {
+        copy_run(block, pair.first, other, pair.second, width);
     }
 }
 
@@ -80,12 +81,12 @@ fn assign_runs(block: &mut RawBlock, dst: &Layout, src: &Layout, width: usize) -
     let Some(from) = src.as_run() else {
         return false;
     };
-    if have_same_step(to, from) {
+    if to.step == from.step {
         move_run(block, to, from, width);
         return true;
     }
     let back = turned(to);
-    if !is_same_line(from, back) {
+    if from.offset != back.offset || from.step != back.step {
         return false;
     }
     turn_run(block, to, back, width);
@@ -121,7 +122,9 @@ pub fn assign(
         → offsets src.now ≡ reverse (offsets dst.now) → IsOk result }
 {
     if !may_overlap(dst, width, src, width) {
-        move_pairs(block, RunPairs::new(dst, src), width);
+        for pair in RunPairs::new(dst, src) {
+            move_apart(block, pair.first, pair.second, width);
+        }
         return Ok(());
     }
     if assign_runs(block, dst, src, width) {

@@ -31,22 +31,9 @@ fn reach_of(axes: &[Axis]) -> usize
     reach
 }
 
-/// Whether some sum along the axes lies within the bounds, decided by divisors or a search.
-fn sum_along(axes: &[Axis], low: usize, high: usize) -> Answer
-    requires { AreForward axes.now }
-    ensures yes { result ≡ Yes → HasSum axes.now low high }
-    ensures no { result ≡ No → HasSum axes.now low high → ⊥ }
-{
-    let reach = reach_of(axes);
-    if !divisors_allow(axes, reach, low, high) {
-        return Answer::No;
-    }
-    let mut steps = MAX_STEPS;
-    search(axes, reach, low, high, &mut steps)
-}
-
-/// Whether some sum along the axes lies within the bounds. It reorders the axes and joins some. It
-/// takes no memory and a bounded number of steps; if these do not decide, the answer is undecided.
+/// Whether some sum along the axes lies within the bounds, decided by divisors or a search. It
+/// reorders the axes and joins some. It takes no memory and a bounded number of steps; if these do
+/// not decide, the answer is undecided.
 pub(crate) fn has_sum(axes: &mut [Axis], low: usize, high: usize) -> Answer
     requires { AreForward axes.old }
     ensures yes { result ≡ Yes → HasSum axes.old low high }
@@ -56,7 +43,13 @@ pub(crate) fn has_sum(axes: &mut [Axis], low: usize, high: usize) -> Answer
     axes.sort_unstable_by_key(|axis| axis.step);
     axes.reverse();
     let from = join_all(axes);
-    sum_along(&axes[from..], low, high)
+    let left = &axes[from..];
+    let reach = reach_of(left);
+    if !divisors_allow(left, reach, low, high) {
+        return Answer::No;
+    }
+    let mut steps = MAX_STEPS;
+    search(left, reach, low, high, &mut steps)
 }
 
 /// The greatest common divisor, by Euclid's steps.

@@ -20,21 +20,6 @@ fn trade_run(block: &mut RawBlock, to: Run, other: &mut RawBlock, from: Run, wid
     block.trade_strided(strided(to, width).steps, other, strided(from, width));
 }
 
-/// Exchanges the items of the first run of each pair with those of its second run, in `other`.
-fn trade_pairs(block: &mut RawBlock, pairs: RunPairs<'_>, other: &mut RawBlock, width: usize)
-    requires counts { All (λ pair. pair.first.count ≡ pair.second.count) pairs }
-    requires to { All (λ pair. RunLies (length block.old) width pair.first) pairs }
-    requires from { All (λ pair. RunLies (length other.old) width pair.second) pairs }
-    ensures traded { (block.new, other.new)
-        ≡ traded_at (firsts pairs.entry) (seconds pairs.entry) width (block.old, other.old) }
-    ensures len { length block.new ≡ length block.old }
-    ensures other_len { length other.new ≡ length other.old }
-{
-    for pair in pairs {
-        trade_run(block, pair.first, other, pair.second, width);
-    }
-}
-
 /// Exchanges the items, of `width` bytes, of the layout `dst` with those of the layout `src` in
 /// `other`, pair by pair in C order.
 fn exchange_pairs(
@@ -56,9 +41,12 @@ fn exchange_pairs(
     ensures len { length block.new ≡ length block.old }
     ensures other_len { length other.new ≡ length other.old }
 {
-    match as_runs(dst, src) {
-        Some(pair) => trade_run(block, pair.first, other, pair.second, width),
-        None => trade_pairs(block, RunPairs::new(dst, src), other, width),
+    if let Some(pair) = as_runs(dst, src) {
+        trade_run(block, pair.first, other, pair.second, width);
+        return;
+    }
+    for pair in RunPairs::new(dst, src) {
+        trade_run(block, pair.first, other, pair.second, width);
     }
 }
 

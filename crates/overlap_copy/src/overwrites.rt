@@ -83,46 +83,15 @@ fn overwrite_run(
 {
     let mut left = pair;
     while left.first.count > PART {
-        let (to, to_left) = split(left.first, PART);
-        let (from, from_left) = split(left.second, PART);
-        let part = RunPair {
-            first: to,
-            second: from,
-        };
-        overwrite_part(block, part, other, width, kept);
+        let (first, first_left) = split(left.first, PART);
+        let (second, second_left) = split(left.second, PART);
+        overwrite_part(block, RunPair { first, second }, other, width, kept);
         left = RunPair {
-            first: to_left,
-            second: from_left,
+            first: first_left,
+            second: second_left,
         };
     }
     overwrite_part(block, left, other, width, kept);
-}
-
-/// Keeps the items of the first run of each pair, one after another, and writes those of its second
-/// run, of `other`, over them.
-fn overwrite_pairs(
-    block: &mut RawBlock,
-    pairs: RunPairs<'_>,
-    other: &RawBlock,
-    width: usize,
-    kept: &mut BlockBuilder,
-)
-    requires counts { All (λ pair. pair.first.count ≡ pair.second.count) pairs }
-    requires begin { All (λ pair. BeginsWithin pair.first) pairs }
-    requires other_begin { All (λ pair. BeginsWithin pair.second) pairs }
-    requires to { All (λ offset. offset + width ≤ length block.old) (firsts pairs) }
-    requires from { All (λ offset. offset + width ≤ length other.now) (seconds pairs) }
-    requires nested { IsNested (firsts pairs) width }
-    requires room { length (firsts pairs) * width ≤ kept.old.1 }
-    ensures written { block.new
-        ≡ assigned (firsts pairs.entry) (seconds pairs.entry) width other.now block.old }
-    ensures len { length block.new ≡ length block.old }
-    ensures old { kept.new.0 ≡ kept.old.0 ++ joined_at (firsts pairs.entry) width block.old }
-    ensures left { length (firsts pairs.entry) * width + kept.new.1 ≡ kept.old.1 }
-{
-    for pair in pairs {
-        overwrite_run(block, pair, other, width, kept);
-    }
 }
 
 /// Writes the items, of `width` bytes, of the layout `src` in `other` over those of the layout
@@ -152,7 +121,9 @@ pub fn overwrite(
     let mut kept = BlockBuilder::try_new(block.allocator(), bytes)?;
     // For the prover alone: the number of bytes is within the limit of a block.
     let _filled = kept.filled();
-    overwrite_pairs(block, RunPairs::new(dst, src), other, width, &mut kept);
+    for pair in RunPairs::new(dst, src) {
+        overwrite_run(block, pair, other, width, &mut kept);
+    }
     Ok(kept.finish())
 }
 

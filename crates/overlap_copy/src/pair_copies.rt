@@ -18,21 +18,6 @@ pub(crate) fn as_runs(first: &Layout, second: &Layout) -> Option<RunPair>
     Some(RunPair { first, second })
 }
 
-/// Copies the items, of `width` bytes, of the second run of each pair, in `other`, to the first
-/// run.
-pub(crate) fn copy_pairs(block: &mut RawBlock, pairs: RunPairs<'_>, other: &RawBlock, width: usize)
-    requires counts { All (λ pair. pair.first.count ≡ pair.second.count) pairs }
-    requires to { All (λ pair. RunLies (length block.old) width pair.first) pairs }
-    requires from { All (λ pair. RunLies (length other.now) width pair.second) pairs }
-    ensures written { block.new
-        ≡ assigned (firsts pairs.entry) (seconds pairs.entry) width other.now block.old }
-    ensures len { length block.new ≡ length block.old }
-{
-    for pair in pairs {
-        copy_run(block, pair.first, other, pair.second, width);
-    }
-}
-
 /// Copies the items, of `width` bytes, of a run to another run of the same block that has as many,
 /// one after the other. Where the two overlap, an item is read as earlier copies left it.
 fn copy_one_by_one(block: &mut RawBlock, to: Run, from: Run, width: usize)
@@ -48,7 +33,7 @@ fn copy_one_by_one(block: &mut RawBlock, to: Run, from: Run, width: usize)
 
 /// Copies the items, of `width` bytes, of a run to another run of the same block that has as many.
 /// The two share no byte.
-fn move_apart(block: &mut RawBlock, to: Run, from: Run, width: usize)
+pub(crate) fn move_apart(block: &mut RawBlock, to: Run, from: Run, width: usize)
     requires count { to.count ≡ from.count }
     requires to { RunLies (length block.old) width to }
     requires from { RunLies (length block.old) width from }
@@ -67,31 +52,6 @@ fn move_apart(block: &mut RawBlock, to: Run, from: Run, width: usize)
     copy_one_by_one(block, to, from, width);
 }
 
-/// Copies the items, of `width` bytes, of the second run of each pair to the first run. No item
-/// that is written shares a byte with one that is read.
-pub(crate) fn move_pairs(block: &mut RawBlock, pairs: RunPairs<'_>, width: usize)
-    requires counts { All (λ pair. pair.first.count ≡ pair.second.count) pairs }
-    requires to { All (λ pair. RunLies (length block.old) width pair.first) pairs }
-    requires from { All (λ pair. RunLies (length block.old) width pair.second) pairs }
-    requires nested { IsNested (firsts pairs) width }
-    requires apart { LieApart width (firsts pairs) (seconds pairs) }
-    ensures written { block.new
-        ≡ assigned (firsts pairs.entry) (seconds pairs.entry) width block.old block.old }
-    ensures len { length block.new ≡ length block.old }
-{
-    for pair in pairs {
-        move_apart(block, pair.first, pair.second, width);
-    }
-}
-
-/// The step in the opposite direction.
-fn opposite(step: isize) -> isize
-    requires { pos 0 ≤ℤ (step +ℤ pos max_bytes) }
-    ensures { result ≡ neg_ℤ step }
-{
-    -step
-}
-
 /// The items of a run from the last to the first.
 pub(crate) fn turned(run: Run) -> Run
     requires { IsLine max_bytes 1 run }
@@ -100,22 +60,8 @@ pub(crate) fn turned(run: Run) -> Run
     Run {
         offset: run.offset_after(run.count - 1),
         count: run.count,
-        step: opposite(run.step),
+        step: -run.step,
     }
-}
-
-/// Whether two runs have the same step.
-pub(crate) fn have_same_step(run: Run, other: Run) -> bool
-    ensures { IsTrue result ↔ run.step ≡ other.step }
-{
-    run.step == other.step
-}
-
-/// Whether two runs have the same first item and the same step.
-pub(crate) fn is_same_line(run: Run, other: Run) -> bool
-    ensures { IsTrue result ↔ (run.offset ≡ other.offset) × (run.step ≡ other.step) }
-{
-    have_same_step(run, other) && run.offset == other.offset
 }
 
 /// Moves the items of a run whose step is not negative to another run with the same step, from the
@@ -139,9 +85,7 @@ fn move_forth(block: &mut RawBlock, to: Run, from: Run, width: usize)
         copy_one_by_one(block, to, from, width);
         return;
     }
-    let to = turned(to);
-    let from = turned(from);
-    copy_one_by_one(block, to, from, width);
+    copy_one_by_one(block, turned(to), turned(from), width);
 }
 
 /// Moves the items of a run to another run with the same step, whatever bytes they share.
@@ -164,9 +108,7 @@ pub(crate) fn move_run(block: &mut RawBlock, to: Run, from: Run, width: usize)
         return;
     }
     if to.step < 0 {
-        let to = turned(to);
-        let from = turned(from);
-        move_forth(block, to, from, width);
+        move_forth(block, turned(to), turned(from), width);
         return;
     }
     move_forth(block, to, from, width);

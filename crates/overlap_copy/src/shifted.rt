@@ -4,7 +4,7 @@ ghost use Rattle.overlap_copy.specs.Clauses.{flat_map, max_bytes, LieWithin, off
 
 use crate::pair_copies::move_run;
 use raw_block::RawBlock;
-use shape_strides::{AddressOrder, Layout, Run, Runs};
+use shape_strides::{AddressOrder, Layout, Run};
 
 /// The run that the items of a run come from, if the item at `to` comes from `from`.
 fn source_of(run: Run, to: usize, from: usize) -> Run
@@ -17,25 +17,6 @@ fn source_of(run: Run, to: usize, from: usize) -> Run
         offset: run.offset + from - to,
         count: run.count,
         step: run.step,
-    }
-}
-
-/// Moves items run by run to these runs. The item at `to` comes from `from`, and all others from
-/// the same distance.
-fn move_shifted(block: &mut RawBlock, runs: Runs<'_>, to: usize, from: usize, width: usize)
-    requires from { from ≤ max_bytes }
-    requires some { All (λ run. 1 ≤ run.count) runs }
-    requires begin { All (λ run.
-        LieWithin (run.count ∷ []) (run.step ∷ []) run.offset max_bytes 1) runs }
-    requires come { MayCome (length block.old) width to from (flat_map run_offsets runs) }
-    ensures written { block.new
-        ≡ assigned (flat_map run_offsets runs.entry)
-        (sources to from (flat_map run_offsets runs.entry)) width block.old block.old }
-    ensures len { length block.new ≡ length block.old }
-{
-    for run in runs {
-        let other = source_of(run, to, from);
-        move_run(block, run, other, width);
     }
 }
 
@@ -53,11 +34,10 @@ pub fn assign_shifted(block: &mut RawBlock, dst: &Layout, src: &Layout, width: u
         ≡ assigned (offsets dst.now) (offsets src.now) width block.old block.old }
     ensures len { length block.new ≡ length block.old }
 {
-    if dst.offset <= src.offset {
-        let rising = AddressOrder::rising(dst);
-        move_shifted(block, rising.runs(), dst.offset, src.offset, width);
-        return;
+    let down = src.offset < dst.offset;
+    let order = AddressOrder::new(dst, down);
+    for run in order.runs() {
+        let other = source_of(run, dst.offset, src.offset);
+        move_run(block, run, other, width);
     }
-    let falling = AddressOrder::falling(dst);
-    move_shifted(block, falling.runs(), dst.offset, src.offset, width);
 }

@@ -1,6 +1,9 @@
 -- Layouts with the same offsets have the same first offset and the same joined axes.
 use Rattle.std.proofs.Common.{◌≡◌, ◌↔◌, ◌≢◌, ◌<◌, ◌==◌, Bool, true, false, ◌&&◌, IsTrue, ℤ, pos, List, [], ◌∷◌, map, length, get_or, reverse, inl, inr, refl, sym, ◌∙◌, ap, arith}
-use Rattle.shape_strides.proofs.Words.{cases_Bool, eqb-true, eq-eqb, false≢true, and_parts, Decides-int_eq, reverse-reverse, int_eq, Layout, StridedAxis, count, natural, offsets, strided_axes, all_joined, all_alike, pos-natural, length-offsets}
+use Rattle.std.proofs.lemmas.Slice.Eq.{slice_eq-Decides}
+use Rattle.std.specs.Bool.{Decides}
+use Rattle.std.specs.Cmp.Lexicographic.{pointwise}
+use Rattle.shape_strides.proofs.Words.{eqb-true, eq-eqb, and_parts, Decides-int_eq, reverse-reverse, int_eq, Layout, StridedAxis, count, natural, offsets, strided_axes, all_joined, pos-natural, length-offsets}
 use Rattle.shape_strides.proofs.JoinedLaws.{addresses, offsets-joined}
 use Rattle.shape_strides.proofs.RunLaws.{NoneBelow, none_below}
 use Rattle.shape_strides.proofs.StartLaws.{lengths_of-axes}
@@ -45,31 +48,19 @@ same_offsets a b first axes = offsets-joined a ∙ ap (λ o. map natural (addres
 
 -- ---- comparing axes
 
-alike-same : (xs ys : List StridedAxis) → all_alike xs ys ≡ true → xs ≡ ys
-alike-same [] [] alike = refl
-alike-same [] (y ∷ ys) alike = absurd (false≢true alike)
-alike-same (x ∷ xs) [] alike = absurd (false≢true alike)
-alike-same (x ∷ xs) (y ∷ ys) alike =
-    let both = and_parts ((x.len == y.len) && int_eq x.stride y.stride) (all_alike xs ys) alike in
-    let parts = and_parts (x.len == y.len) (int_eq x.stride y.stride) both.0 in
-    ap (λ z. z ∷ xs) (same_axis x y (eqb-true x.len y.len parts.0) ((Decides-int_eq x.stride y.stride).0 parts.1)) ∙ ap (λ zs. y ∷ zs) (alike-same xs ys both.1)
+-- `==` of lists of axes
+abbrev pub are_alike : List StridedAxis → List StridedAxis → Bool
+are_alike = pointwise (λ (x y : StridedAxis). (x.len == y.len) && int_eq x.stride y.stride)
 
-alike-itself : (xs : List StridedAxis) → all_alike xs xs ≡ true
-alike-itself [] = refl
-alike-itself (x ∷ xs) =
-    let len : (x.len == x.len) ≡ true = eq-eqb x.len x.len refl in
-    let stride : int_eq x.stride x.stride ≡ true = (Decides-int_eq x.stride x.stride).1 refl in
-    rw (len, stride, alike-itself xs) refl
-
-pub unalike : (xs ys : List StridedAxis) → length xs ≢ length ys → false ≡ all_alike xs ys
-unalike xs ys other =
-    elim (cases_Bool (all_alike xs ys)) [
-      | inl alike ↦ absurd (other (ap length (alike-same xs ys alike)))
-      | inr not ↦ sym not
-    ]
+axes_eq : (x y : StridedAxis) → Decides ((x.len == y.len) && int_eq x.stride y.stride) (x ≡ y)
+axes_eq x y = (
+  λ yes. let parts = and_parts (x.len == y.len) (int_eq x.stride y.stride) yes in same_axis x y (eqb-true x.len y.len parts.0) ((Decides-int_eq x.stride y.stride).0 parts.1),
+  λ same. ap (λ z. (x.len == z.len) && int_eq x.stride z.stride) (sym same) ∙ rw (eq-eqb x.len x.len refl, (Decides-int_eq x.stride x.stride).1 refl) refl,
+)
 
 -- If the first offsets are equal, comparing the joined axes, listed innermost first, decides whether all offsets are.
-pub decided : (a b : Layout) (left right : List StridedAxis) (alike : Bool) → 0 < count a.shape → 0 < count b.shape → a.offset ≡ b.offset → reverse left ≡ axes_of a → reverse right ≡ axes_of b → alike ≡ all_alike left right → IsTrue alike ↔ (offsets a ≡ offsets b)
+pub decided : (a b : Layout) (left right : List StridedAxis) (alike : Bool) → 0 < count a.shape → 0 < count b.shape → a.offset ≡ b.offset → reverse left ≡ axes_of a → reverse right ≡ axes_of b → alike ≡ are_alike left right → IsTrue alike ↔ (offsets a ≡ offsets b)
 decided a b left right alike some some' first is is' test =
+    let same_list = slice_eq-Decides axes_eq left right alike test in
     let onto : offsets a ≡ offsets b → left ≡ right = λ same. sym (reverse-reverse left) ∙ ap reverse (is ∙ same_axes a b some some' same ∙ sym is') ∙ reverse-reverse right in
-    (λ yes. same_offsets a b first (sym is ∙ ap reverse (alike-same left right (sym test ∙ yes)) ∙ is'), λ same. test ∙ ap (all_alike left) (sym (onto same)) ∙ alike-itself left)
+    (λ yes. same_offsets a b first (sym is ∙ ap reverse (same_list.0 yes) ∙ is'), λ same. same_list.1 (onto same))

@@ -1,7 +1,7 @@
 -- Names from std, from the crates below and from `specs/`, which the proofs use.
 pub use Rattle.elem_descr.specs.ListLaws.{first_is, flat_map-flat_map, flat_map_same, map-flat_map}
 pub use Rattle.elem_descr.specs.StepLaws.{none_more, numbers-split, numbers-suc, steps_later}
-pub use Rattle.shape_strides.specs.AddressOrders.{IsFalling, IsRising}
+pub use Rattle.shape_strides.specs.AddressOrders.{IsFalling, IsInOrder, IsRising}
 pub use Rattle.shape_strides.specs.Addresses.{LieWithin, address_at, dot, natural}
 pub use Rattle.shape_strides.specs.AxisIndexes.{unit, zero_filled}
 pub use Rattle.shape_strides.specs.AxisLaws.{*ℤ-more, IsIndex-first, IsIndex-unit, dot-nil, dot-unit, dot-zeros, one-step, rank-unit, rank-zeros, zeros_are}
@@ -37,11 +37,10 @@ pub use Rattle.shape_strides.specs.declared.layout_pair.LayoutPair.{LayoutPair}
 pub use Rattle.shape_strides.specs.declared.run_pairs.RunPair.{RunPair}
 pub use Rattle.shape_strides.specs.declared.runs.Run.{Run}
 pub use Rattle.shape_strides.specs.declared.single_run.StridedAxis.{StridedAxis}
-pub use Rattle.shape_strides.specs.inside.Alike.{all_alike}
 pub use Rattle.shape_strides.specs.inside.AxisMoves.{IsMoved, swap_next, turn}
 pub use Rattle.shape_strides.specs.inside.Heads.{IsHead, both}
 pub use Rattle.shape_strides.specs.inside.LastRuns.{AreJoinedFrom, IsLastRun}
-pub use Rattle.shape_strides.specs.inside.Orders.{IsInOrder, IsShortStep, IsStart, along, downward, upward}
+pub use Rattle.shape_strides.specs.inside.Orders.{IsShortStep, IsStart, along, downward, upward}
 pub use Rattle.shape_strides.specs.inside.Reach.{max_reach, reach_above, reach_below, reach_within}
 pub use Rattle.shape_strides.specs.inside.Single.{if_long}
 pub use Rattle.shape_strides.specs.inside.Starts.{lengths_of}

@@ -5,12 +5,16 @@ use Rattle.shape_strides.specs.declared.layout.Layout.{Layout}
 use Rattle.shape_strides.specs.declared.single_run.StridedAxis.{StridedAxis}
 use Rattle.shape_strides.specs.declared.runs.Run.{Run}
 use Rattle.shape_strides.specs.Indexes.{count}
-use Rattle.shape_strides.specs.Addresses.{natural}
+use Rattle.shape_strides.specs.Addresses.{LieWithin, natural}
 use Rattle.shape_strides.specs.Joined.{strided_axes, all_joined}
 
 -- the offsets of a run's items
 abbrev pub run_offsets : Run → List ℕ
 run_offsets run = map natural (numbers_from (pos run.offset) run.step run.count)
+
+-- every item of the run, of `item` bytes, lies within the first `len` bytes
+abbrev pub RunWithin : ℕ → ℕ → Run → Type 0
+RunWithin len item run = LieWithin (run.count ∷ []) (run.step ∷ []) run.offset len item
 
 -- the run along an axis, starting at `offset`
 abbrev pub run_along : StridedAxis → ℕ → Run

@@ -1,7 +1,6 @@
 pub mod Reach
 pub mod Starts
 pub mod Heads
-pub mod Alike
 pub mod Single
 pub mod LastRuns
 pub mod Orders

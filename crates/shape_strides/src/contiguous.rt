@@ -53,13 +53,10 @@ impl Layout {
         ensures offsets { IfOk result
             (λ l. offsets l ≡ fortran_order layout.now.shape (offsets layout.now)) }
     {
-        let shape = Shape::try_copy(alloc, &layout.shape)?;
-        let strides = Strides::from_slice(alloc, layout.strides.as_slice())?;
-        Ok(Layout {
-            shape: shape.reversed(),
-            strides: strides.reversed(),
-            offset: layout.offset,
-        })
+        let mut reversed = Layout::try_copy(alloc, layout)?;
+        reversed.shape.reverse();
+        reversed.strides.reverse();
+        Ok(reversed)
     }
 
     /// The offset of the first item in C order, or 0 if there are no items.

@@ -1,10 +1,10 @@
 //! The bytes that a layout's items take, its axes, and whether two layouts have the same offsets.
 ghost use Rattle.std.specs.Prelude.{All, Any, Contains, IfOk, IsTrue, [], length, take, ℕ, ◌+◌, ◌<◌, ◌↔◌, ◌≡◌, ◌≤◌};
-ghost use Rattle.shape_strides.specs.Clauses.{offsets, axes, all_alike};
+ghost use Rattle.shape_strides.specs.Clauses.{offsets, axes};
 
 use crate::address_order::axes_of;
 use crate::layout::Layout;
-use crate::single_run::{StridedAxis, joined_axes};
+use crate::single_run::joined_axes;
 use crate::stacked::Axis;
 use crate::steps::reach_of;
 use std::alloc::{AllocError, Global};
@@ -51,21 +51,6 @@ impl Layout {
     }
 }
 
-/// Whether these are the same axes.
-fn are_alike(left: &[StridedAxis], right: &[StridedAxis]) -> bool
-    ensures { result ≡ all_alike left.now right.now }
-{
-    if left.len() != right.len() {
-        return false;
-    }
-    for (k, axis) in left.iter().enumerate() {
-        if axis.len != right[k].len || axis.stride != right[k].stride {
-            return false;
-        }
-    }
-    true
-}
-
 /// Whether two layouts have the same offsets in C order, whatever their shapes. It takes time by
 /// axes, not by items.
 pub fn have_same_offsets(alloc: Global, first: &Layout, second: &Layout) -> Result<bool, AllocError>
@@ -83,5 +68,5 @@ pub fn have_same_offsets(alloc: Global, first: &Layout, second: &Layout) -> Resu
     }
     let left = joined_axes(alloc, first)?;
     let right = joined_axes(alloc, second)?;
-    Ok(are_alike(left.as_slice(), right.as_slice()))
+    Ok(left.as_slice() == right.as_slice())
 }

@@ -3,9 +3,8 @@ ghost use Rattle.std.specs.Prelude.{◌≡◌, [], ◌∷◌, ◌<◌, ◌≤◌
 ghost use Rattle.shape_strides.specs.Words.{flat_map};
 ghost use Rattle.shape_strides.specs.Limits.{max_items, max_bytes};
 ghost use Rattle.shape_strides.specs.Indexes.{count};
-ghost use Rattle.shape_strides.specs.Addresses.{LieWithin};
 ghost use Rattle.shape_strides.specs.Layouts.{offsets, Fits};
-ghost use Rattle.shape_strides.specs.Runs.{run_offsets, GoesBy};
+ghost use Rattle.shape_strides.specs.Runs.{run_offsets, GoesBy, RunWithin};
 ghost use Rattle.shape_strides.specs.RunPairs.{cut, run_pairs};
 ghost use Rattle.shape_strides.specs.PairWalks.{IsWhole};
 ghost use Rattle.shape_strides.specs.inside.Heads.{IsHead, both};
@@ -79,13 +78,9 @@ impl<'a> RunPairs<'a> {
         ensures second { flat_map (λ pair. run_offsets pair.second) (run_pairs first.now second.now)
             ≡ offsets second.now }
         ensures first_lie { (len item : ℕ) → Fits first.now len item
-            → All (λ pair.
-            LieWithin (pair.first.count ∷ []) (pair.first.step ∷ []) pair.first.offset len item)
-            (run_pairs first.now second.now) }
+            → All (λ pair. RunWithin len item pair.first) (run_pairs first.now second.now) }
         ensures second_lie { (len item : ℕ) → Fits second.now len item
-            → All (λ pair.
-            LieWithin (pair.second.count ∷ []) (pair.second.step ∷ []) pair.second.offset len item)
-            (run_pairs first.now second.now) }
+            → All (λ pair. RunWithin len item pair.second) (run_pairs first.now second.now) }
         ensures counts { All (λ pair. pair.first.count ≡ pair.second.count)
             (run_pairs first.now second.now) }
         ensures alone { (step other : ℤ) → 0 < count first.now.shape

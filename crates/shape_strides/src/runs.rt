@@ -1,9 +1,8 @@
 //! The items of a layout, run by run.
-ghost use Rattle.shape_strides.specs.Addresses.{LieWithin};
 ghost use Rattle.shape_strides.specs.Indexes.{count};
 ghost use Rattle.shape_strides.specs.Layouts.{Fits, offsets};
 ghost use Rattle.shape_strides.specs.Limits.{max_bytes};
-ghost use Rattle.shape_strides.specs.Runs.{run_along, run_offsets};
+ghost use Rattle.shape_strides.specs.Runs.{RunWithin, run_along, run_offsets};
 ghost use Rattle.std.specs.Prelude.{All, IsTrue, [], length, map, ℕ, ℤ, ◌+◌, ◌<◌, ◌↔◌, ◌∷◌, ◌≡◌, ◌≤◌};
 ghost use Rattle.shape_strides.specs.Words.{flat_map};
 
@@ -81,8 +80,7 @@ impl<'a> Runs<'a> {
         ensures within { (len item : ℕ) → Fits layout.now len item
             → All (λ offset. offset + item ≤ len) (offsets layout.now) }
         ensures lie { (len item : ℕ) → Fits layout.now len item
-            → All (λ run. LieWithin (run.count ∷ []) (run.step ∷ []) run.offset len item)
-            (runs layout.now) }
+            → All (RunWithin len item) (runs layout.now) }
         ensures some { All (λ run. 1 ≤ run.count) (runs layout.now) }
     {
         Runs::over(
@@ -159,10 +157,9 @@ impl Layout {
     pub fn rows(&self) -> Rows<'_>
         ensures offsets { flat_map run_offsets
             (map (run_along result.along) (flat_map run_offsets result.starts)) ≡ offsets self.now }
-        ensures lie { All (λ run. LieWithin (run.count ∷ []) (run.step ∷ []) run.offset max_bytes 1)
+        ensures lie { All (RunWithin max_bytes 1)
             (map (run_along result.along) (flat_map run_offsets result.starts)) }
-        ensures begin { All (λ run.
-            LieWithin (run.count ∷ []) (run.step ∷ []) run.offset max_bytes 1) result.starts }
+        ensures begin { All (RunWithin max_bytes 1) result.starts }
         ensures some { All (λ run. 1 ≤ run.count) result.starts }
     {
         let items = self.shape.items();

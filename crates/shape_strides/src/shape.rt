@@ -67,10 +67,7 @@ impl Shape {
         if lengths.len() > MAX_AXES {
             return Err(Refusal::TooManyAxes);
         }
-        if !are_within_limit(lengths) {
-            return Err(Refusal::TooLarge);
-        }
-        if capped_count(lengths) > MAX_ITEMS {
+        if !are_within_limit(lengths) || capped_count(lengths) > MAX_ITEMS {
             return Err(Refusal::TooLarge);
         }
         Ok(Shape::from_lengths(alloc, lengths)?)
@@ -122,23 +119,19 @@ impl Shape {
         })
     }
 
-    /// The shape with its axes reversed.
-    pub(crate) fn reversed(self) -> Shape
-        ensures { result ≡ reverse self }
+    /// Reverses the axes.
+    pub(crate) fn reverse(&mut self)
+        ensures { self.new ≡ reverse self.old }
     {
-        let mut shape = self;
-        shape.axes.as_mut_slice().reverse();
-        shape
+        self.axes.as_mut_slice().reverse();
     }
 
-    /// The shape with an axis and the next one swapped.
-    pub(crate) fn swapped(self, axis: usize) -> Shape
-        requires { axis + 1 < length self }
-        ensures { result ≡ swap self axis (axis + 1) }
+    /// Swaps an axis and the next one.
+    pub(crate) fn swap(&mut self, axis: usize)
+        requires { axis + 1 < length self.old }
+        ensures { self.new ≡ swap self.old axis (axis + 1) }
     {
-        let mut shape = self;
-        shape.axes.as_mut_slice().swap(axis, axis + 1);
-        shape
+        self.axes.as_mut_slice().swap(axis, axis + 1);
     }
 }
 

@@ -1,6 +1,6 @@
 //! The run that the last axes of a layout make, and axes that a single step leads through.
 ghost use Rattle.std.specs.Prelude.{IfOk, IfSome, MatchOption, OnOk, [], length, pos, reverse, ℕ, ℤ, ◌*◌, ◌<◌, ◌∷◌, ◌≡◌, ◌≤◌};
-ghost use Rattle.shape_strides.specs.Clauses.{LieWithin, count, all_joined, join_outside, leads_over, strided_axes, Fits, offsets, max_items, GoesBy, run_offsets, IsLastRun, if_long, lengths_of};
+ghost use Rattle.shape_strides.specs.Clauses.{RunWithin, count, all_joined, join_outside, leads_over, strided_axes, Fits, offsets, max_items, GoesBy, run_offsets, IsLastRun, if_long, lengths_of};
 
 use crate::layout::Layout;
 use crate::runs::Run;
@@ -72,8 +72,7 @@ impl Layout {
     pub fn as_one_run(&self) -> Option<Run>
         ensures items { IfSome result (λ run. run_offsets run ≡ offsets self.now) }
         ensures lie { (len item : ℕ) → Fits self.now len item
-            → IfSome result
-            (λ run. LieWithin (run.count ∷ []) (run.step ∷ []) run.offset len item) }
+            → IfSome result (RunWithin len item) }
         ensures found { (step : ℤ) → 2 ≤ length (offsets self.now) → GoesBy step (offsets self.now)
             → MatchOption result ⊥ (λ run. run.step ≡ step) }
     {
@@ -97,8 +96,7 @@ impl Layout {
         ensures two { IfSome result (λ run. 2 ≤ run.count) }
         ensures few { IfSome result (λ run. run.count ≤ max_items) }
         ensures lie { (len item : ℕ) → Fits self.now len item
-            → IfSome result
-            (λ run. LieWithin (run.count ∷ []) (run.step ∷ []) run.offset len item) }
+            → IfSome result (RunWithin len item) }
         ensures found { (step : ℤ) → 2 ≤ length (offsets self.now) → GoesBy step (offsets self.now)
             → MatchOption result ⊥ (λ run. run.step ≡ step) }
     {
@@ -110,7 +108,7 @@ impl Layout {
 }
 
 /// An axis: how many items it has, and how many bytes from one item to the next.
-#[derive(Clone, Copy, Default, Drop)]
+#[derive(Clone, Copy, Default, PartialEq, Eq, Drop)]
 pub struct StridedAxis {
     pub len: usize,
     pub stride: isize,

@@ -55,35 +55,30 @@ impl Strides {
         strides
     }
 
-    /// The strides in reverse order.
-    pub(crate) fn reversed(self) -> Strides
-        ensures { result ≡ reverse self }
+    /// Reverses the strides.
+    pub(crate) fn reverse(&mut self)
+        ensures { self.new ≡ reverse self.old }
     {
-        let mut strides = self;
-        strides.steps.as_mut_slice().reverse();
-        strides
+        self.steps.as_mut_slice().reverse();
     }
 
-    /// The strides with one and the next swapped.
-    pub(crate) fn swapped(self, axis: usize) -> Strides
-        requires { axis + 1 < length self }
-        ensures { result ≡ swap self axis (axis + 1) }
+    /// Swaps one and the next.
+    pub(crate) fn swap(&mut self, axis: usize)
+        requires { axis + 1 < length self.old }
+        ensures { self.new ≡ swap self.old axis (axis + 1) }
     {
-        let mut strides = self;
-        strides.steps.as_mut_slice().swap(axis, axis + 1);
-        strides
+        self.steps.as_mut_slice().swap(axis, axis + 1);
     }
 
-    /// The strides with the sign of one changed.
-    pub(crate) fn opposed(self, axis: usize) -> Strides
-        requires axis { axis < length self }
-        requires short { slice_index_or self axis (pos 0) ≢ neg_ℤ (pos (2 ^ 63)) }
-        ensures { result ≡ slice_set self axis (neg_ℤ (slice_index_or self axis (pos 0))) }
+    /// Changes the sign of one.
+    pub(crate) fn negate(&mut self, axis: usize)
+        requires axis { axis < length self.old }
+        requires short { slice_index_or self.old axis (pos 0) ≢ neg_ℤ (pos (2 ^ 63)) }
+        ensures { self.new
+            ≡ slice_set self.old axis (neg_ℤ (slice_index_or self.old axis (pos 0))) }
     {
-        let mut strides = self;
-        let steps = strides.steps.as_mut_slice();
+        let steps = self.steps.as_mut_slice();
         steps[axis] = -steps[axis];
-        strides
     }
 
     pub fn push(&mut self, step: isize) -> Result<(), AllocError>

@@ -1,12 +1,7 @@
 -- Axes with the same sums as other axes.
-use Rattle.std.specs.Prelude.{◌≡◌, ℕ, ◌*◌, ◌/◌, ◌≤◌, List}
+use Rattle.std.specs.Prelude.{◌≡◌, ℕ, List}
 use Rattle.overlap_copy.specs.Words.{Axis}
 use Rattle.overlap_copy.specs.inside.Sums.{reach_of, AreForward, HasSum}
-
--- a step of the wide axis is a whole number of steps of the narrow one, and at most as many as the narrow one has items
-pub record GoesOn (wide narrow : Axis) : Type 0 where
-  pub times : wide.step ≡ narrow.step * (wide.step / narrow.step)
-  pub items : wide.step / narrow.step ≤ narrow.len
 
 -- for all bounds, either both lists of axes have a sum within them, or neither has
 pub record SameSums (axes others : List Axis) : Type 0 where

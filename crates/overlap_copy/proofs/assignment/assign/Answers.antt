@@ -1,24 +1,61 @@
-use Rattle.std.proofs.Common.{◌≡◌, ◌*◌, length, sym, ap, subst, ◌∙◌, All, ◌+◌, ◌≤◌, arith}
-use Rattle.overlap_copy.proofs.Words.{both_ways, max_bytes, offsets, multiples, length-offsets, offsets_within, walked-within, with_items, assigned, LieApart, firsts, seconds}
+use Rattle.std.proofs.Common.{◌≡◌, ◌*◌, ◌++◌, length, sym, ap, subst, ◌∙◌, All, ◌+◌, ◌≤◌, refl, arith}
+use Rattle.overlap_copy.proofs.Words.{both_ways, max_bytes, offsets, multiples, length-offsets, offsets_within, walked-within, with_items, assigned, LieApart, firsts, seconds, All-rest, EachWithin, IsNested, run_offsets, length-run_offsets, next_pair}
 use Rattle.overlap_copy.proofs.AssignLaws.{lie_apart}
+use Rattle.overlap_copy.proofs.MovingLaws.{IsMoving, moving_begins, moving_on, nested-front, nested-back, fewer-targets, fewer-sources}
 use Rattle.overlap_copy.proofs.assignment.assign.Goals as goal
 
-pub move_pairs-requires-clause-to : goal.move_pairs-requires-clause-to
-move_pairs-requires-clause-to c =
+pub loop-pair-init : goal.loop-pair-init
+loop-pair-init c =
+    let new = c.new-pair-items.ensures in
+    let dst = c.args.dst.now in
+    let src = c.args.src.now in
     let len = length c.args.block.now in
-    walked-within len c.args.width (λ pair. pair.first) _ _ _ c.new.ensures.pairs (c.new.ensures.first_lie max_bytes 1 c.args.dst.now.within_limit) c.new.ensures.first (offsets_within c.args.dst.now len c.args.width c.requires.dst)
+    let width = c.args.width in
+    let to_in = offsets_within dst len width c.requires.dst in
+    let from_in = offsets_within src len width c.requires.src in
+    let apart = lie_apart width (offsets dst) (offsets src) (c.may_overlap.ensures.sound c.if-not-may_overlap.true) in
+    rw (c.into_iter-pair-iterator.ensures.into_iter_gives, new.pairs) (record {
+      moving = rw (new.first, new.second) (moving_begins (offsets dst) (offsets src) width c.args.block.now to_in from_in);
+      counts = new.counts;
+      to = walked-within len width (λ pair. pair.first) _ _ _ refl (new.first_lie max_bytes 1 dst.within_limit) new.first to_in;
+      from = walked-within len width (λ pair. pair.second) _ _ _ refl (new.second_lie max_bytes 1 src.within_limit) new.second from_in;
+      nested = rw new.first c.requires.nested;
+      apart = rw (new.first, new.second) apart;
+    })
 
-pub move_pairs-requires-clause-from : goal.move_pairs-requires-clause-from
-move_pairs-requires-clause-from c =
+pub move_apart-requires-clause-nested : goal.move_apart-requires-clause-nested
+move_apart-requires-clause-nested c =
+    nested-front (run_offsets c.in-Some.pair.first) (firsts c.next.new.self) c.args.width (subst (λ l. IsNested (firsts l) c.args.width) c.in-Some.ensures.steps c.loop-pair.invariant.nested)
+
+pub move_apart-requires-clause-apart : goal.move_apart-requires-clause-apart
+move_apart-requires-clause-apart c =
+    let pair = c.in-Some.pair in
+    let left = c.next.new.self in
+    let apart = subst (λ l. LieApart c.args.width (firsts l) (seconds l)) c.in-Some.ensures.steps c.loop-pair.invariant.apart in
+    let first = (fewer-targets c.args.width (run_offsets pair.first) (firsts left) (run_offsets pair.second ++ seconds left) apart).0 in
+    (fewer-sources c.args.width (run_offsets pair.first) (run_offsets pair.second) (seconds left) first).0
+
+pub loop-pair-preserved : goal.loop-pair-preserved
+loop-pair-preserved c =
+    let inv = c.loop-pair.invariant in
+    let steps = c.in-Some.ensures.steps in
+    let pair = c.in-Some.pair in
+    let left = c.next.new.self in
+    let width = c.args.width in
+    let to = run_offsets pair.first in
+    let from = run_offsets pair.second in
     let len = length c.args.block.now in
-    walked-within len c.args.width (λ pair. pair.second) _ _ _ c.new.ensures.pairs (c.new.ensures.second_lie max_bytes 1 c.args.src.now.within_limit) c.new.ensures.second (offsets_within c.args.src.now len c.args.width c.requires.src)
-
-pub move_pairs-requires-clause-apart : goal.move_pairs-requires-clause-apart
-move_pairs-requires-clause-apart c =
-    let to = ap firsts c.new.ensures.pairs ∙ c.new.ensures.first in
-    let from = ap seconds c.new.ensures.pairs ∙ c.new.ensures.second in
-    subst (λ l. LieApart c.args.width l (seconds c.new.result)) (sym to) (subst (LieApart c.args.width (offsets c.args.dst.now)) (sym from)
-    (lie_apart c.args.width (offsets c.args.dst.now) (offsets c.args.src.now) (c.may_overlap.ensures.sound c.if-not-may_overlap.true)))
+    let even = length-run_offsets pair.first ∙ next_pair (λ p. p.first.count ≡ p.second.count) _ _ _ steps inv.counts ∙ sym (length-run_offsets pair.second) in
+    let both = fewer-targets width to (firsts left) (from ++ seconds left) (subst (λ l. LieApart width (firsts l) (seconds l)) steps inv.apart) in
+    record {
+      moving = moving_on to (firsts left) from (seconds left) width c.args.block.now c.loop-pair.block c.move_apart.new.block _ even (fewer-sources width to from (seconds left) both.0).1 c.move_apart.ensures.written c.move_apart.ensures.len
+          (subst (λ l. IsMoving (firsts l) (seconds l) width c.args.block.now c.loop-pair.block (assigned (offsets c.args.dst.now) (offsets c.args.src.now) width c.args.block.now c.args.block.now)) steps inv.moving);
+      counts = All-rest (λ p. p.first.count ≡ p.second.count) _ _ _ steps inv.counts;
+      to = All-rest (λ p. EachWithin len p.first.offset p.first.step width p.first.count) _ _ _ steps inv.to;
+      from = All-rest (λ p. EachWithin len p.second.offset p.second.step width p.second.count) _ _ _ steps inv.from;
+      nested = nested-back to (firsts left) width (subst (λ l. IsNested (firsts l) width) steps inv.nested);
+      apart = (fewer-sources width (firsts left) from (seconds left) both.1).1;
+    }
 
 pub gather-requires : goal.gather-requires
 gather-requires c = subst (λ n. All (λ offset. offset + c.args.width ≤ n) (offsets c.args.src.now)) (sym c.assign_runs.ensures.len) (offsets_within c.args.src.now (length c.args.block.now) c.args.width c.requires.src)

@@ -1,6 +1,6 @@
-use Rattle.std.proofs.Common.{length}
-use Rattle.overlap_copy.proofs.Words.{max_bytes, offsets, walked-within}
-use Rattle.overlap_copy.proofs.PairCopies.{as_many, one-within}
+use Rattle.std.proofs.Common.{◌≡◌, length, refl, sym, subst, ◌∙◌}
+use Rattle.overlap_copy.proofs.Words.{max_bytes, All-rest, EachWithin, next_pair, offsets, assigned, walked-within}
+use Rattle.overlap_copy.proofs.PairCopies.{as_many, one-within, copied-pair}
 use Rattle.overlap_copy.proofs.assignment.assign_in_order.Goals as goal
 
 pub copy_run-requires : goal.copy_run-requires
@@ -13,10 +13,30 @@ copy_run-requires c =
       from = one-within (length c.args.other.now) c.args.width pair.second (offsets c.args.src.now) found.second_lies found.second c.requires.src;
     }
 
-pub copy_pairs-requires-clause-to : goal.copy_pairs-requires-clause-to
-copy_pairs-requires-clause-to c =
-    walked-within (length c.args.block.now) c.args.width (λ pair. pair.first) _ _ _ c.new.ensures.pairs (c.new.ensures.first_lie max_bytes 1 c.args.dst.now.within_limit) c.new.ensures.first c.requires.dst
+pub loop-pair-init : goal.loop-pair-init
+loop-pair-init c =
+    let new = c.new-pair-items.ensures in
+    rw (c.into_iter-pair-iterator.ensures.into_iter_gives, new.pairs) (record {
+      rest = λ i. assigned (new.first i) (new.second i) c.args.width c.args.other.now c.args.block.now;
+      len = refl;
+      counts = new.counts;
+      to = walked-within (length c.args.block.now) c.args.width (λ pair. pair.first) _ _ _ refl (new.first_lie max_bytes 1 c.args.dst.now.within_limit) new.first c.requires.dst;
+      from = walked-within (length c.args.other.now) c.args.width (λ pair. pair.second) _ _ _ refl (new.second_lie max_bytes 1 c.args.src.now.within_limit) new.second c.requires.src;
+    })
 
-pub copy_pairs-requires-clause-from : goal.copy_pairs-requires-clause-from
-copy_pairs-requires-clause-from c =
-    walked-within (length c.args.other.now) c.args.width (λ pair. pair.second) _ _ _ c.new.ensures.pairs (c.new.ensures.second_lie max_bytes 1 c.args.src.now.within_limit) c.new.ensures.second c.requires.src
+pub copy_run-requires-2 : goal.copy_run-requires-2
+copy_run-requires-2 c = record {
+  count = next_pair (λ pair. pair.first.count ≡ pair.second.count) _ _ _ c.in-Some-next.ensures.steps c.loop-pair.invariant.counts;
+  to = subst (λ n. EachWithin n c.in-Some-next.pair.first.offset c.in-Some-next.pair.first.step c.args.width c.in-Some-next.pair.first.count) (sym c.loop-pair.invariant.len)
+      (next_pair (λ pair. EachWithin (length c.args.block.now) pair.first.offset pair.first.step c.args.width pair.first.count) _ _ _ c.in-Some-next.ensures.steps c.loop-pair.invariant.to);
+  from = next_pair (λ pair. EachWithin (length c.args.other.now) pair.second.offset pair.second.step c.args.width pair.second.count) _ _ _ c.in-Some-next.ensures.steps c.loop-pair.invariant.from;
+}
+
+pub loop-pair-preserved : goal.loop-pair-preserved
+loop-pair-preserved c = record {
+  rest = copied-pair _ _ _ _ _ _ _ _ c.in-Some-next.ensures.steps (next_pair (λ pair. pair.first.count ≡ pair.second.count) _ _ _ c.in-Some-next.ensures.steps c.loop-pair.invariant.counts) c.copy_run-2.ensures.written c.loop-pair.invariant.rest;
+  len = c.copy_run-2.ensures.len ∙ c.loop-pair.invariant.len;
+  counts = All-rest (λ pair. pair.first.count ≡ pair.second.count) _ _ _ c.in-Some-next.ensures.steps c.loop-pair.invariant.counts;
+  to = All-rest (λ pair. EachWithin (length c.args.block.now) pair.first.offset pair.first.step c.args.width pair.first.count) _ _ _ c.in-Some-next.ensures.steps c.loop-pair.invariant.to;
+  from = All-rest (λ pair. EachWithin (length c.args.other.now) pair.second.offset pair.second.step c.args.width pair.second.count) _ _ _ c.in-Some-next.ensures.steps c.loop-pair.invariant.from;
+}

@@ -1,29 +1,80 @@
-use Rattle.std.proofs.Common.{◌≡◌, ◌*◌, ◌++◌, length, sym, ap, ◌∙◌, arith}
-use Rattle.overlap_copy.proofs.Words.{offsets, multiples, length-offsets, items_at, joined_at, length-joined_at, joined-items, firsts}
+use Rattle.std.proofs.Common.{◌≡◌, ◌+◌, ◌*◌, ◌≤◌, [], List, ℕ, length, refl, sym, ap, subst, ◌∙◌, append-nil, arith}
+use Rattle.overlap_copy.proofs.Words.{All-rest, max_bytes, BeginsWithin, IsNested, run_offsets, next_pair, offsets, multiples, length-offsets, items_at, joined_at, length-joined_at, joined-items, firsts, seconds}
+use Rattle.overlap_copy.proofs.MovingLaws.{nested-front}
+use Rattle.overlap_copy.proofs.OverwriteLaws.{overwritten, left-on, next-all, next-room}
 use Rattle.overlap_copy.proofs.overwrites.overwrite.Goals as goal
-use Rattle.overlap_copy.proofs.overwrites.overwrite.Goals.{After-new, After-finish}
+use Rattle.overlap_copy.proofs.overwrites.overwrite.Goals.{After-finish}
 
--- the memory is enough for exactly all items
-size : (c : After-new) → length (firsts c.new.result) * c.args.width ≡ c.in_ok-kept.kept.1
-size c =
-    let many = ap length (ap firsts c.new.ensures.pairs ∙ c.new.ensures.first) ∙ length-offsets c.args.dst.now ∙ sym c.items.ensures.value in
-    omega (arith, ap (λ n. n * c.args.width) many, ap (λ p. p.1) c.in_ok-kept.ensures, c.saturating_mul-bytes.ensures, c.filled-filled.ensures.small)
+pub loop-pair-init : goal.loop-pair-init
+loop-pair-init c =
+    let new = c.new-pair-items.ensures in
+    let many = length-offsets c.args.dst.now ∙ sym c.items.ensures.value in
+    let room = ap (λ n. n * c.args.width) (ap length new.first ∙ many) in
+    rw (c.into_iter-pair-iterator.ensures.into_iter_gives, new.pairs) (record {
+      left = record {
+        nested = rw new.first c.requires.nested;
+        to_in = rw new.first c.requires.dst;
+        from_in = rw new.second c.requires.src;
+        rest = λ i. overwritten (new.first i) (new.second i) c.args.width c.args.other.now c.args.block.now (c.in_ok-kept.ensures i).0;
+        fills = omega (arith, room, ap (λ p. p.1) c.in_ok-kept.ensures, c.saturating_mul-bytes.ensures, c.filled-filled.ensures.small);
+      };
+      len = refl;
+      counts = new.counts;
+      begin = new.first_lie max_bytes 1 c.args.dst.now.within_limit;
+      other_begin = new.second_lie max_bytes 1 c.args.src.now.within_limit;
+    })
 
-pub overwrite_pairs-requires-clause-room : goal.overwrite_pairs-requires-clause-room
-overwrite_pairs-requires-clause-room c = omega (arith, size (goal.at.overwrite_pairs-requires-clause-room c).After-new)
+pub overwrite_run-requires : goal.overwrite_run-requires
+overwrite_run-requires c =
+    let inv = c.loop-pair.invariant in
+    let steps = c.in-Some.ensures.steps in
+    let pair = c.in-Some.pair in
+    let left = c.next.new.self in
+    let width = c.args.width in
+    record {
+      count = next_pair (λ p. p.first.count ≡ p.second.count) _ _ _ steps inv.counts;
+      begins = next_pair (λ p. BeginsWithin p.first) _ _ _ steps inv.begin;
+      other_begins = next_pair (λ p. BeginsWithin p.second) _ _ _ steps inv.other_begin;
+      to = next-all (λ o. o + width ≤ length c.loop-pair.block) _ _ _ (ap firsts (sym steps)) inv.left.to_in;
+      from = next-all (λ o. o + width ≤ length c.args.other.now) _ _ _ (ap seconds (sym steps)) inv.left.from_in;
+      nested = nested-front (run_offsets pair.first) (firsts left) width (subst (λ l. IsNested (firsts l) width) steps inv.left.nested);
+      room = next-room pair.first (firsts left) _ width _ c.loop-pair.kept.1 (ap firsts (sym steps)) inv.left.fills;
+    }
+
+pub loop-pair-preserved : goal.loop-pair-preserved
+loop-pair-preserved c =
+    let inv = c.loop-pair.invariant in
+    let steps = c.in-Some.ensures.steps in
+    let pair = c.in-Some.pair in
+    let run = c.overwrite_run.ensures in
+    record {
+      left = left-on pair.first pair.second _ _ _ _ c.args.width c.args.other.now c.loop-pair.block _ c.loop-pair.kept.0 _ c.loop-pair.kept.1 _ _ _ (ap firsts (sym steps)) (ap seconds (sym steps))
+          (next_pair (λ p. p.first.count ≡ p.second.count) _ _ _ steps inv.counts) run.written run.len run.old run.left inv.left;
+      len = run.len ∙ inv.len;
+      counts = All-rest (λ p. p.first.count ≡ p.second.count) _ _ _ steps inv.counts;
+      begin = All-rest (λ p. BeginsWithin p.first) _ _ _ steps inv.begin;
+      other_begin = All-rest (λ p. BeginsWithin p.second) _ _ _ steps inv.other_begin;
+    }
+
+-- what is written, and what is kept
+all_done : (c : After-finish) → ◌≡◌ {A = List ℕ × List ℕ} (c.loop-pair.block, c.finish.result) (overwritten (offsets c.args.dst.now) (offsets c.args.src.now) c.args.width c.args.other.now c.args.block.now [])
+all_done c =
+    let none = c.in-None.ensures.steps.0 in
+    (λ i. (c.loop-pair.block, (c.finish.ensures ∙ sym (append-nil c.loop-pair.kept.0)) i))
+    ∙ (λ i. overwritten (firsts (sym none i)) (seconds (sym none i)) c.args.width c.args.other.now c.loop-pair.block c.loop-pair.kept.0)
+    ∙ c.loop-pair.invariant.left.rest
 
 pub finish-requires : goal.finish-requires
-finish-requires c = omega (arith, size (goal.at.finish-requires c).After-new, c.overwrite_pairs.ensures.left)
+finish-requires c = omega (arith, ap (λ l. length (firsts l) * c.args.width) c.in-None.ensures.steps.0, c.loop-pair.invariant.left.fills)
 
--- the old items are concatenated
-bytes_are : (c : After-finish) → c.finish.result ≡ joined_at (offsets c.args.dst.now) c.args.width c.args.block.now
-bytes_are c = c.finish.ensures ∙ c.overwrite_pairs.ensures.old ∙ (λ i. (c.in_ok-kept.ensures i).0 ++ joined_at ((ap firsts c.new.ensures.pairs ∙ c.new.ensures.first) i) c.args.width c.args.block.now)
+pub returns-clause-written : goal.returns-clause-written
+returns-clause-written c = ap (λ p. p.0) (all_done (goal.at.returns-clause-written c).After-finish)
 
 pub returns-clause-len : goal.returns-clause-len
-returns-clause-len c = ap length (bytes_are (goal.at.returns-clause-len c).After-finish) ∙ length-joined_at c.args.width (offsets c.args.dst.now) c.args.block.now c.requires.dst
+returns-clause-len c = ap (λ p. length p.1) (all_done (goal.at.returns-clause-len c).After-finish) ∙ length-joined_at c.args.width (offsets c.args.dst.now) c.args.block.now c.requires.dst
 
 pub returns-clause-old : goal.returns-clause-old
 returns-clause-old c =
     let os = offsets c.args.dst.now in
     let width = c.args.width in
-    ap (items_at (multiples width (length os)) width) (bytes_are (goal.at.returns-clause-old c).After-finish) ∙ joined-items width os c.args.block.now c.requires.dst
+    ap (λ p. items_at (multiples width (length os)) width p.1) (all_done (goal.at.returns-clause-old c).After-finish) ∙ joined-items width os c.args.block.now c.requires.dst

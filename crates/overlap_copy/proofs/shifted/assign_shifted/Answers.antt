@@ -1,48 +1,71 @@
-use Rattle.std.proofs.Common.{length, ap, ◌∙◌, sym, subst, arith}
-use Rattle.overlap_copy.proofs.Words.{assigned, sources, MayCome}
-use Rattle.overlap_copy.proofs.ComeLaws.{offset-within, assigned-order, come-rising, come-falling, nested-rising, nested-falling}
+use Rattle.std.proofs.Common.{◌≤◌, [], ◌∷◌, length, All, nat_lt, refl, sym, ap, subst, ◌∙◌}
+use Rattle.overlap_copy.proofs.Words.{flat_map, All-rest, EachWithin, max_bytes, LieWithin, run_offsets, assigned, sources, MayCome}
+use Rattle.overlap_copy.proofs.ComeLaws.{offset-within, assigned-order, come-in_order, nested-in_order}
+use Rattle.overlap_copy.proofs.MovingLaws.{IsMoving, moving_begins}
+use Rattle.overlap_copy.proofs.ShiftLaws.{sources-end, next-come, later-come, next-within, next-start, next-low, next-few, next-source-lies, next-source-within, run-moved}
 use Rattle.overlap_copy.proofs.shifted.assign_shifted.Goals as goal
 
-pub move_shifted-requires-clause-from : goal.move_shifted-requires-clause-from
-move_shifted-requires-clause-from c = offset-within c.args.src.now
-
-pub move_shifted-requires-clause-come : goal.move_shifted-requires-clause-come
-move_shifted-requires-clause-come c =
+pub loop-run-init : goal.loop-run-init
+loop-run-init c =
     let dst = c.args.dst.now in
     let src = c.args.src.now in
+    let order = c.new-order.result in
     let len = length c.args.block.now in
-    subst (MayCome len c.args.width dst.offset src.offset) (sym c.runs.ensures.offsets)
-    (come-rising dst src c.requires.shape c.requires.strides c.rising-rising.result len c.args.width c.runs.ensures.few c.rising-rising.ensures.only c.requires.dst c.requires.src c.if-dst-src.true (c.rising-rising.ensures.rising c.args.width c.requires.item c.requires.stacked))
-
-pub returns-then-dst-src-clause-written : goal.returns-then-dst-src-clause-written
-returns-then-dst-src-clause-written c =
-    let dst = c.args.dst.now in
-    let src = c.args.src.now in
-    let old = c.args.block.now in
     let width = c.args.width in
-    let rising = c.rising-rising.ensures.rising width c.requires.item c.requires.stacked in
-    c.move_shifted.ensures.written
-    ∙ ap (λ os. assigned os (sources dst.offset src.offset os) width old old) c.runs.ensures.offsets
-    ∙ assigned-order dst src c.requires.shape c.requires.strides c.rising-rising.result width old c.rising-rising.ensures.all c.rising-rising.ensures.only c.requires.dst c.requires.src (c.rising-rising.ensures.nested width c.requires.item c.requires.stacked) (nested-rising c.rising-rising.result width rising)
+    let come = come-in_order dst src c.requires.shape c.requires.strides order len width (nat_lt src.offset dst.offset) refl (c.new-order.ensures.order width c.requires.item c.requires.stacked) c.runs.ensures.few c.new-order.ensures.only c.requires.dst c.requires.src in
+    rw (c.into_iter-run-iterator.ensures.into_iter_gives, c.runs.ensures.offsets) (record {
+      moving = moving_begins order (sources dst.offset src.offset order) width c.args.block.now come.targets (sources-end len width dst.offset src.offset order come);
+      come = come;
+      some = c.runs.ensures.some;
+      begin = c.runs.ensures.begin;
+    })
 
-pub move_shifted-requires-2-clause-from : goal.move_shifted-requires-2-clause-from
-move_shifted-requires-2-clause-from c = offset-within c.args.src.now
+pub source_of-other-requires-clause-from : goal.source_of-other-requires-clause-from
+source_of-other-requires-clause-from c = offset-within c.args.src.now
 
-pub move_shifted-requires-2-clause-come : goal.move_shifted-requires-2-clause-come
-move_shifted-requires-2-clause-come c =
-    let dst = c.args.dst.now in
-    let src = c.args.src.now in
-    let len = length c.args.block.now in
-    subst (MayCome len c.args.width dst.offset src.offset) (sym c.runs-2.ensures.offsets)
-    (come-falling dst src c.requires.shape c.requires.strides c.falling-falling.result len c.args.width c.runs-2.ensures.few c.falling-falling.ensures.only c.requires.dst c.requires.src (omega (arith, c.if-dst-src.false)) (c.falling-falling.ensures.falling c.args.width c.requires.item c.requires.stacked))
+pub source_of-other-requires-clause-run : goal.source_of-other-requires-clause-run
+source_of-other-requires-clause-run c = next-start (length c.args.block.now) c.args.width c.args.dst.now.offset c.args.src.now.offset c.loop-run.run-iterator c.next.new.self c.in-Some.run' c.in-Some.ensures.steps c.loop-run.invariant.some c.loop-run.invariant.begin c.loop-run.invariant.come
+
+pub source_of-other-requires-clause-low : goal.source_of-other-requires-clause-low
+source_of-other-requires-clause-low c = next-low (length c.args.block.now) c.args.width c.args.dst.now.offset c.args.src.now.offset c.loop-run.run-iterator c.next.new.self c.in-Some.run' c.in-Some.ensures.steps c.loop-run.invariant.some c.loop-run.invariant.begin c.loop-run.invariant.come
+
+pub move_run-requires-clause-few : goal.move_run-requires-clause-few
+move_run-requires-clause-few c = next-few (length c.args.block.now) c.args.width c.args.dst.now.offset c.args.src.now.offset c.loop-run.run-iterator c.next.new.self c.in-Some.run' c.in-Some.ensures.steps c.loop-run.invariant.some c.loop-run.invariant.begin c.loop-run.invariant.come
+
+pub move_run-requires-clause-from_limit : goal.move_run-requires-clause-from_limit
+move_run-requires-clause-from_limit c =
+    subst (λ r. LieWithin (r.count ∷ []) (r.step ∷ []) r.offset max_bytes 1) (sym c.source_of-other.ensures) (next-source-lies (length c.args.block.now) c.args.width c.args.dst.now.offset c.args.src.now.offset c.loop-run.run-iterator c.next.new.self c.in-Some.run' c.in-Some.ensures.steps c.loop-run.invariant.some c.loop-run.invariant.begin c.loop-run.invariant.come)
+
+pub move_run-requires-clause-to : goal.move_run-requires-clause-to
+move_run-requires-clause-to c =
+    subst (λ n. EachWithin n c.in-Some.run'.offset c.in-Some.run'.step c.args.width c.in-Some.run'.count) (sym c.loop-run.invariant.moving.len) (next-within (length c.args.block.now) c.args.width c.args.dst.now.offset c.args.src.now.offset c.loop-run.run-iterator c.next.new.self c.in-Some.run' c.in-Some.ensures.steps c.loop-run.invariant.some c.loop-run.invariant.begin c.loop-run.invariant.come)
+
+pub move_run-requires-clause-from : goal.move_run-requires-clause-from
+move_run-requires-clause-from c =
+    subst (λ n. EachWithin n c.source_of-other.result.offset c.source_of-other.result.step c.args.width c.source_of-other.result.count) (sym c.loop-run.invariant.moving.len)
+    (subst (λ r. EachWithin (length c.args.block.now) r.offset r.step c.args.width r.count) (sym c.source_of-other.ensures) (next-source-within (length c.args.block.now) c.args.width c.args.dst.now.offset c.args.src.now.offset c.loop-run.run-iterator c.next.new.self c.in-Some.run' c.in-Some.ensures.steps c.loop-run.invariant.some c.loop-run.invariant.begin c.loop-run.invariant.come))
+
+pub move_run-requires-clause-nested : goal.move_run-requires-clause-nested
+move_run-requires-clause-nested c = (next-come (length c.args.block.now) c.args.width c.args.dst.now.offset c.args.src.now.offset c.loop-run.run-iterator c.next.new.self c.in-Some.run' c.in-Some.ensures.steps c.loop-run.invariant.some c.loop-run.invariant.begin c.loop-run.invariant.come).nested
+
+pub loop-run-preserved : goal.loop-run-preserved
+loop-run-preserved c =
+    let steps = c.in-Some.ensures.steps in
+    record {
+      moving = run-moved (length c.args.block.now) c.args.width c.args.dst.now.offset c.args.src.now.offset c.loop-run.run-iterator c.next.new.self c.in-Some.run' c.in-Some.ensures.steps c.loop-run.invariant.some c.loop-run.invariant.begin c.loop-run.invariant.come c.args.block.now c.loop-run.block c.move_run.new.block _
+          (c.move_run.ensures.written ∙ ap (λ r. assigned (run_offsets c.in-Some.run') (run_offsets r) c.args.width c.loop-run.block c.loop-run.block) c.source_of-other.ensures) c.move_run.ensures.len c.loop-run.invariant.moving;
+      come = later-come (length c.args.block.now) c.args.width c.args.dst.now.offset c.args.src.now.offset c.loop-run.run-iterator c.next.new.self c.in-Some.run' c.in-Some.ensures.steps c.loop-run.invariant.some c.loop-run.invariant.begin c.loop-run.invariant.come;
+      some = All-rest (λ r. 1 ≤ r.count) _ _ _ steps c.loop-run.invariant.some;
+      begin = All-rest (λ r. LieWithin (r.count ∷ []) (r.step ∷ []) r.offset max_bytes 1) _ _ _ steps c.loop-run.invariant.begin;
+    }
 
 pub returns-clause-written : goal.returns-clause-written
 returns-clause-written c =
     let dst = c.args.dst.now in
     let src = c.args.src.now in
-    let old = c.args.block.now in
+    let order = c.new-order in
     let width = c.args.width in
-    let falling = c.falling-falling.ensures.falling width c.requires.item c.requires.stacked in
-    c.move_shifted-2.ensures.written
-    ∙ ap (λ os. assigned os (sources dst.offset src.offset os) width old old) c.runs-2.ensures.offsets
-    ∙ assigned-order dst src c.requires.shape c.requires.strides c.falling-falling.result width old c.falling-falling.ensures.all c.falling-falling.ensures.only c.requires.dst c.requires.src (c.falling-falling.ensures.nested width c.requires.item c.requires.stacked) (nested-falling c.falling-falling.result width falling)
+    let in_order = nested-in_order order.result width (nat_lt src.offset dst.offset) (order.ensures.order width c.requires.item c.requires.stacked) in
+    ap (λ rs. assigned (flat_map run_offsets rs) (sources dst.offset src.offset (flat_map run_offsets rs)) width c.args.block.now c.loop-run.block) (sym c.in-None.ensures.steps.0)
+    ∙ c.loop-run.invariant.moving.rest
+    ∙ assigned-order dst src c.requires.shape c.requires.strides order.result width c.args.block.now order.ensures.all order.ensures.only c.requires.dst c.requires.src (order.ensures.nested width c.requires.item c.requires.stacked) in_order

@@ -1,6 +1,6 @@
 use Rattle.std.proofs.Common.{refl, sym, ap, ◌∙◌, arith}
-use Rattle.shape_strides.proofs.Words.{false≢true, all_alike, no_offsets}
-use Rattle.shape_strides.proofs.SameLaws.{offsets_differ, other_first, decided}
+use Rattle.shape_strides.proofs.Words.{false≢true, no_offsets}
+use Rattle.shape_strides.proofs.SameLaws.{offsets_differ, other_first, are_alike, decided}
 use Rattle.shape_strides.proofs.layout_extent.have_same_offsets.Goals as goal
 
 pub returns-then-items : goal.returns-then-items
@@ -17,4 +17,4 @@ returns-then-first-second c =
 
 pub returns : goal.returns
 returns c =
-    decided c.args.first.now c.args.second.now c.in_ok-left.left.items c.in_ok-right.right.items c.are_alike.result (omega (arith, c.items-items.ensures.value)) (omega (arith, c.items-items.ensures.value, c.items.ensures.value)) (omega arith) c.in_ok-left.ensures c.in_ok-right.ensures (c.are_alike.ensures ∙ ap (λ axes. all_alike axes c.as_slice-2.result.now) c.as_slice.ensures ∙ ap (all_alike c.in_ok-left.left.items) c.as_slice-2.ensures)
+    decided c.args.first.now c.args.second.now c.in_ok-left.left.items c.in_ok-right.right.items c.eq.result (omega (arith, c.items-items.ensures.value)) (omega (arith, c.items-items.ensures.value, c.items.ensures.value)) (omega arith) c.in_ok-left.ensures c.in_ok-right.ensures (c.eq.ensures ∙ ap (λ axes. are_alike axes c.as_slice-2.result.now) c.as_slice.ensures ∙ ap (are_alike c.in_ok-left.left.items) c.as_slice-2.ensures)
