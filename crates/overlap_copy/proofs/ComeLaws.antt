@@ -1,6 +1,6 @@
 -- Items of a layout that are all moved by the same number of bytes, in the order of their addresses.
 use Rattle.std.proofs.Common.{◌≡◌, ◌+◌, ◌-◌, ◌<◌, ◌≤◌, ◌⊎◌, inl, inr, ℕ, ℤ, pos, ◌+ℤ◌, List, length, get_or, All, Contains, Bool, true, false, nat_lt, sym, ap, subst, ◌∙◌, arith}
-use Rattle.overlap_copy.proofs.Words.{cases_lt, ints, length-map, get_or-map, get_or_default, item_at, Layout, max_bytes, max_items, rank, IsIndex, count, offsets, Fits, IsNested, distance, IsRising, IsFalling, IsInOrder, ltb-true, index_at, length-offsets, pos-offset, offsets_within, entry-first, assigned, IsAssigned, source, sources, MayCome}
+use Rattle.overlap_copy.proofs.Words.{cases_lt, ints, length-map, get_or-map, get_or_default, item_at, Layout, max_bytes, max_items, rank, IsIndex, count, offsets, Fits, IsNested, distance, IsRising, IsFalling, IsInOrder, false≢true, lt-ltb, ltb-true, index_at, length-offsets, pos-offset, offsets_within, entry-first, assigned, IsAssigned, source, sources, MayCome}
 use Rattle.shape_strides.specs.Layouts.{dot}
 use Rattle.overlap_copy.proofs.MoveLaws.{same_assigned, assigned_is}
 
@@ -132,5 +132,8 @@ module _ (dst src : Layout) (shape : src.shape ≡ dst.shape) (strides : src.str
   -- in falling order if the items move up, and in rising order otherwise
   pub come-in_order : (order : List ℕ) (len width : ℕ) (down : Bool) → down ≡ nat_lt src.offset dst.offset → IsInOrder down width order → length order ≤ max_items → All (Contains (offsets dst)) order → Fits dst len width → Fits src len width
       → MayCome len width dst.offset src.offset order
-  come-in_order order len width false is rising few only fits fits' = come-rising order len width few only fits fits' (omega (arith, is)) rising
+  come-in_order order len width false is rising few only fits fits' = come-rising order len width few only fits fits' ahead rising
+    where
+      ahead : dst.offset ≤ src.offset
+      ahead = elim (cases_lt src.offset dst.offset) [ inl below ↦ absurd (false≢true (is ∙ lt-ltb src.offset dst.offset below)) | inr above ↦ above ]
   come-in_order order len width true is falling few only fits fits' = come-falling order len width few only fits fits' (ltb-true src.offset dst.offset (sym is)) falling

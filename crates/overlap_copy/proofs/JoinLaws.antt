@@ -1,6 +1,6 @@
 -- Laws of joined axes.
-use Rattle.std.proofs.Common.{◌≡◌, ℕ, zero, suc, ◌+◌, ◌-◌, ◌*◌, ◌/◌, ◌%◌, ◌<◌, ◌≤◌, inl, inr, List, [], ◌∷◌, length, get_or, set, take, drop, sum_by, length-drop, sym, subst, ap, refl, ◌∙◌, arith, mul_assoc, mul-add, mul-le-mul_left, zero-mul}
-use Rattle.overlap_copy.proofs.Words.{mod-lt, IsPermutation, cases_lt, drop_more, drop-set, take_all, All-cons, All-tail, All-drop, sum_by-cons, IsPermutation-sym, All-permutation, sum_by-IsPermutation, div-add-mod, Axis, IsIndex, reach, lengths_in, reached, reordered, reach_of, max_reach, AreForward, HasSum, SameSums, AreJoined}
+use Rattle.std.proofs.Common.{◌≡◌, ℕ, zero, suc, ◌+◌, ◌-◌, ◌*◌, ◌/◌, ◌%◌, ◌<◌, ◌≤◌, inl, inr, List, [], ◌∷◌, length, get_or, set, take, drop, sum_by, length-drop, sym, subst, ap, refl, ◌∙◌, arith, mul_assoc, mul-add, mul-le-mul_left, mul-le-mul_right, one-mul, zero-mul}
+use Rattle.overlap_copy.proofs.Words.{mod-lt, div-le_self, IsPermutation, cases_lt, drop_more, drop-set, take_all, All-cons, All-tail, All-drop, sum_by-cons, IsPermutation-sym, All-permutation, sum_by-IsPermutation, div-add-mod, Axis, IsIndex, reach, lengths_in, reached, reordered, reach_of, max_reach, AreForward, HasSum, SameSums, AreJoined}
 
 -- ---- lists of axes with the same sums
 
@@ -156,6 +156,15 @@ put_joined wide axes from d below are on =
     let forward = forward_cons both rest some.0 (omega (arith, some.1)) (forward_tail narrow rest near) (omega (arith, sum, far)) in
     let joined : AreJoined (wide ∷ narrow ∷ rest) (both ∷ rest) = record { forward = forward; reach = omega (arith, far); same = join-same wide narrow rest (wide_some wide (drop from axes) are) on } in
     subst (λ l. AreJoined l (drop from (set axes from both))) (sym split) (subst (AreJoined (wide ∷ narrow ∷ rest)) (sym (drop-set axes from both below)) joined)
+
+pub join_small : (wide : Axis) (axes : List Axis) (from : ℕ) (d : Axis) → from < length axes → AreForward (wide ∷ drop from axes) → wide.step / (get_or axes from d).step * (wide.len - 1) + (get_or axes from d).len ≤ max_reach + 1
+join_small wide axes from d below are =
+    let narrow = get_or axes from d in
+    let some = first_some narrow (drop (from + 1) axes) (behind wide axes from d below are) in
+    let sum : reach wide + (reach narrow + reach_of (drop (from + 1) axes)) ≤ max_reach = omega (arith, are.near, ap reach_of (drop_more axes from d below)) in
+    let times : wide.step / narrow.step * (wide.len - 1) ≤ wide.step * (wide.len - 1) = mul-le-mul_right (wide.len - 1) (div-le_self wide.step narrow.step) in
+    let items : 1 * (narrow.len - 1) ≤ narrow.step * (narrow.len - 1) = mul-le-mul_right (narrow.len - 1) some.0 in
+    omega (arith, sum, times, items, one-mul (narrow.len - 1), some.1)
 
 -- ---- the axes from one on
 

@@ -1,5 +1,5 @@
 -- Laws of the map of bytes that finds shared bytes.
-use Rattle.std.proofs.Common.{◌≡◌, ◌↔◌, inl, inr, ℕ, ◌+◌, ◌-◌, ◌<◌, ◌≤◌, Bool, false, ◌&&◌, List, ◌++◌, length, get_or, take, drop, replicate, All, IsTrue, nat_eq, nat_le, sym, ap, ◌∙◌, arith}
+use Rattle.std.proofs.Common.{◌≡◌, ◌↔◌, inl, inr, ℕ, ◌+◌, ◌-◌, ◌<◌, ◌≤◌, Bool, false, ◌&&◌, ◌||◌, List, ◌++◌, length, get_or, take, drop, replicate, All, IsTrue, nat_eq, nat_le, sym, ap, ◌∙◌, arith}
 use Rattle.overlap_copy.proofs.Words.{list_any, cases_lt, eq-eqb, eqb-true, le-leb, lt-leb, and_left, false_from_ne_true, get_or-replicate, get_or_past, length-replicate, take-append-le, take_all, Any-from_list_any, list_any-from_Any, holds_byte, IsMarkedUpTo, is_marked, is_end_marked, same_test}
 use Rattle.overlap_copy.proofs.OverlapLaws.{all_at, held_from_test, test_from_held}
 
@@ -17,13 +17,14 @@ none-clear len k clear is =
     ]
 
 -- the first byte of each item is marked, and then each mark is made as wide as an item
-pub held-marks : (xs : List ℕ) (width start len : ℕ) (first wide : List Bool) → All (λ p. start ≤ p) xs → ((i : ℕ) → i < len → get_or first i false ≡ list_any (nat_eq (start + i)) xs) → ((i : ℕ) → i < len → IsTrue (get_or wide i false) ↔ IsMarkedUpTo first width i)
+pub held-marks : (xs : List ℕ) (width start len : ℕ) (clear first wide : List Bool) → All (λ p. start ≤ p) xs → ((i : ℕ) → get_or clear i false ≡ false)
+    → ((i : ℕ) → i < len → get_or first i false ≡ (get_or clear i false || list_any (nat_eq (start + i)) xs)) → ((i : ℕ) → i < len → IsTrue (get_or wide i false) ↔ IsMarkedUpTo first width i)
     → (i : ℕ) → i < len → get_or wide i false ≡ holds_byte xs width (start + i)
-held-marks xs width start len first wide low firsts wides i inside =
+held-marks xs width start len clear first wide low none firsts wides i inside =
     same_test (get_or wide i false) (holds_byte xs width (start + i))
     (λ marked.
     let near = (wides i inside).0 marked in
-    let there = sym (firsts near.at (omega (arith, inside, near.up_to))) ∙ near.marked in
+    let there = sym (ap (λ b. b || list_any (nat_eq (start + near.at)) xs) (none near.at)) ∙ sym (firsts near.at (omega (arith, inside, near.up_to))) ∙ near.marked in
     let found = Any-from_list_any (nat_eq (start + near.at)) xs there in
     let is : start + near.at ≡ found.1 = eqb-true (start + near.at) found.1 found.4 in
     test_from_held xs width (start + i) found.1 (found.0, found.2, found.3) (omega (arith, is, near.up_to)) (omega (arith, is, near.near)))
@@ -37,7 +38,7 @@ held-marks xs width start len first wide low firsts wides i inside =
       at = p - start;
       up_to = omega (arith, after, item.2);
       near = omega (arith, after, item.3);
-      marked = firsts (p - start) (omega (arith, after, item.2, inside)) ∙ there;
+      marked = firsts (p - start) (omega (arith, after, item.2, inside)) ∙ ap (λ b. b || list_any (nat_eq (start + (p - start))) xs) (none (p - start)) ∙ there;
     }))
 
 module _ (xs : List ℕ) (width start len : ℕ) (marks : List Bool) (long : length marks ≡ len) (low : All (λ p. start ≤ p) xs) (high : All (λ p. p + width ≤ start + len) xs)

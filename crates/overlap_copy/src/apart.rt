@@ -5,6 +5,18 @@ ghost use Rattle.overlap_copy.specs.Clauses.{AreApart, IsGreatestDivisor, LieBet
 use crate::axis_sums::common_divisor;
 use shape_strides::Layout;
 
+/// How many bytes an axis steps over in either direction, or 0 if it has fewer than two items.
+fn step_along(strides: &[isize], axis: usize, len: usize) -> usize
+    requires { axis < length strides.now }
+    ensures { result
+        ≡ (if nat_le 2 len then unsigned_abs (slice_index_or strides.now axis (pos 0)) else 0) }
+{
+    if len < 2 {
+        return 0;
+    }
+    strides[axis].unsigned_abs()
+}
+
 /// The greatest common divisor of a number and all steps of a layout.
 fn divisor_with(number: usize, layout: &Layout) -> usize
     ensures { IsGreatestDivisor result (number ∷ steps layout.now) }
@@ -13,9 +25,7 @@ fn divisor_with(number: usize, layout: &Layout) -> usize
     let strides = layout.strides.as_slice();
     let mut divisor = number;
     for (axis, len) in lengths.iter().enumerate() {
-        if *len >= 2 {
-            divisor = common_divisor(divisor, strides[axis].unsigned_abs());
-        }
+        divisor = common_divisor(divisor, step_along(strides, axis, *len));
     }
     divisor
 }
@@ -59,10 +69,23 @@ pub fn may_overlap(a: &Layout, a_item: usize, b: &Layout, b_item: usize) -> bool
     ensures sound { result ≡ false
         → have_common_byte (offsets a.now) a_item (offsets b.now) b_item ≡ false }
 {
-    let a_bytes = a.span(a_item);
-    let b_bytes = b.span(b_item);
-    if a_bytes.start >= b_bytes.end || b_bytes.start >= a_bytes.end {
+    if !ranges_meet(a, a_item, b, b_item) {
         return false;
     }
     !lie_between(a, a_item, b, b_item)
+}
+
+/// Whether the byte ranges of two layouts, with items of `a_item` and `b_item` bytes, overlap.
+/// Items can share bytes only if they do. It takes no memory, and time proportional to the number
+/// of axes.
+pub fn ranges_meet(a: &Layout, a_item: usize, b: &Layout, b_item: usize) -> bool
+    requires a_fits { Fits a.now max_bytes a_item }
+    requires b_fits { Fits b.now max_bytes b_item }
+    ensures value { result ≡ do_ranges_meet (offsets a.now) a_item (offsets b.now) b_item }
+    ensures sound { result ≡ false
+        → have_common_byte (offsets a.now) a_item (offsets b.now) b_item ≡ false }
+{
+    let a = a.span(a_item);
+    let b = b.span(b_item);
+    a.start < b.end && b.start < a.end
 }

@@ -3,7 +3,9 @@ ghost use Rattle.std.specs.Prelude.{◌≡◌, ◌+◌, ◌≤◌, ℤ, length, 
 ghost use Rattle.overlap_copy.specs.Clauses.{IsPermutation, max_bytes, count, offsets, Fits, IsNested, item_pairs, assigned, AreApart, IsRun, have_common_byte};
 
 use crate::apart::may_overlap;
-use crate::pair_copies::{as_runs, move_apart, move_run, turn_run, turned};
+use crate::pair_copies::{
+    as_runs, have_same_step, is_same_line, move_apart, move_run, turn_run, turned,
+};
 use arrays::{copy_run, gather, scatter};
 use raw_block::RawBlock;
 use shape_strides::{Layout, LayoutPair, RunPairs, in_memory_order};
@@ -81,12 +83,12 @@ fn assign_runs(block: &mut RawBlock, dst: &Layout, src: &Layout, width: usize) -
     let Some(from) = src.as_run() else {
         return false;
     };
-    if to.step == from.step {
+    if have_same_step(to, from) {
         move_run(block, to, from, width);
         return true;
     }
     let back = turned(to);
-    if from.offset != back.offset || from.step != back.step {
+    if !is_same_line(from, back) {
         return false;
     }
     turn_run(block, to, back, width);

@@ -52,6 +52,14 @@ pub(crate) fn move_apart(block: &mut RawBlock, to: Run, from: Run, width: usize)
     copy_one_by_one(block, to, from, width);
 }
 
+/// The step in the opposite direction.
+fn opposite(step: isize) -> isize
+    requires { pos 0 ≤ℤ (step +ℤ pos max_bytes) }
+    ensures { result ≡ neg_ℤ step }
+{
+    -step
+}
+
 /// The items of a run from the last to the first.
 pub(crate) fn turned(run: Run) -> Run
     requires { IsLine max_bytes 1 run }
@@ -60,8 +68,22 @@ pub(crate) fn turned(run: Run) -> Run
     Run {
         offset: run.offset_after(run.count - 1),
         count: run.count,
-        step: -run.step,
+        step: opposite(run.step),
     }
+}
+
+/// Whether two runs have the same step.
+pub(crate) fn have_same_step(run: Run, other: Run) -> bool
+    ensures { IsTrue result ↔ run.step ≡ other.step }
+{
+    run.step == other.step
+}
+
+/// Whether two runs have the same first item and the same step.
+pub(crate) fn is_same_line(run: Run, other: Run) -> bool
+    ensures { IsTrue result ↔ (run.offset ≡ other.offset) × (run.step ≡ other.step) }
+{
+    have_same_step(run, other) && run.offset == other.offset
 }
 
 /// Moves the items of a run whose step is not negative to another run with the same step, from the

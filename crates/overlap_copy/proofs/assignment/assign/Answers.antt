@@ -23,6 +23,18 @@ loop-pair-init c =
       apart = rw (new.first, new.second) apart;
     })
 
+pub move_apart-requires-clause-to : goal.move_apart-requires-clause-to
+move_apart-requires-clause-to c =
+    let run = c.in-Some.pair.first in
+    subst (λ n. EachWithin n run.offset run.step c.args.width run.count) (sym c.loop-pair.invariant.moving.len)
+    (next_pair (λ p. EachWithin (length c.args.block.now) p.first.offset p.first.step c.args.width p.first.count) _ _ _ c.in-Some.ensures.steps c.loop-pair.invariant.to)
+
+pub move_apart-requires-clause-from : goal.move_apart-requires-clause-from
+move_apart-requires-clause-from c =
+    let run = c.in-Some.pair.second in
+    subst (λ n. EachWithin n run.offset run.step c.args.width run.count) (sym c.loop-pair.invariant.moving.len)
+    (next_pair (λ p. EachWithin (length c.args.block.now) p.second.offset p.second.step c.args.width p.second.count) _ _ _ c.in-Some.ensures.steps c.loop-pair.invariant.from)
+
 pub move_apart-requires-clause-nested : goal.move_apart-requires-clause-nested
 move_apart-requires-clause-nested c =
     nested-front (run_offsets c.in-Some.pair.first) (firsts c.next.new.self) c.args.width (subst (λ l. IsNested (firsts l) c.args.width) c.in-Some.ensures.steps c.loop-pair.invariant.nested)

@@ -24,19 +24,19 @@ loop-pair-init c =
       from = walked-within (length c.args.other.now) c.args.width (λ pair. pair.second) _ _ _ refl (new.second_lie max_bytes 1 c.args.src.now.within_limit) new.second c.requires.src;
     })
 
-pub copy_run-requires-2 : goal.copy_run-requires-2
-copy_run-requires-2 c = record {
-  count = next_pair (λ pair. pair.first.count ≡ pair.second.count) _ _ _ c.in-Some-next.ensures.steps c.loop-pair.invariant.counts;
-  to = subst (λ n. EachWithin n c.in-Some-next.pair.first.offset c.in-Some-next.pair.first.step c.args.width c.in-Some-next.pair.first.count) (sym c.loop-pair.invariant.len)
-      (next_pair (λ pair. EachWithin (length c.args.block.now) pair.first.offset pair.first.step c.args.width pair.first.count) _ _ _ c.in-Some-next.ensures.steps c.loop-pair.invariant.to);
-  from = next_pair (λ pair. EachWithin (length c.args.other.now) pair.second.offset pair.second.step c.args.width pair.second.count) _ _ _ c.in-Some-next.ensures.steps c.loop-pair.invariant.from;
+pub copy_run-requires-in-loop-pair : goal.copy_run-requires-in-loop-pair
+copy_run-requires-in-loop-pair c = record {
+  count = next_pair (λ pair. pair.first.count ≡ pair.second.count) _ _ _ c.in-Some-pair.ensures.steps c.loop-pair.invariant.counts;
+  to = subst (λ n. EachWithin n c.in-Some-pair.pair.first.offset c.in-Some-pair.pair.first.step c.args.width c.in-Some-pair.pair.first.count) (sym c.loop-pair.invariant.len)
+      (next_pair (λ pair. EachWithin (length c.args.block.now) pair.first.offset pair.first.step c.args.width pair.first.count) _ _ _ c.in-Some-pair.ensures.steps c.loop-pair.invariant.to);
+  from = next_pair (λ pair. EachWithin (length c.args.other.now) pair.second.offset pair.second.step c.args.width pair.second.count) _ _ _ c.in-Some-pair.ensures.steps c.loop-pair.invariant.from;
 }
 
 pub loop-pair-preserved : goal.loop-pair-preserved
 loop-pair-preserved c = record {
-  rest = copied-pair _ _ _ _ _ _ _ _ c.in-Some-next.ensures.steps (next_pair (λ pair. pair.first.count ≡ pair.second.count) _ _ _ c.in-Some-next.ensures.steps c.loop-pair.invariant.counts) c.copy_run-2.ensures.written c.loop-pair.invariant.rest;
-  len = c.copy_run-2.ensures.len ∙ c.loop-pair.invariant.len;
-  counts = All-rest (λ pair. pair.first.count ≡ pair.second.count) _ _ _ c.in-Some-next.ensures.steps c.loop-pair.invariant.counts;
-  to = All-rest (λ pair. EachWithin (length c.args.block.now) pair.first.offset pair.first.step c.args.width pair.first.count) _ _ _ c.in-Some-next.ensures.steps c.loop-pair.invariant.to;
-  from = All-rest (λ pair. EachWithin (length c.args.other.now) pair.second.offset pair.second.step c.args.width pair.second.count) _ _ _ c.in-Some-next.ensures.steps c.loop-pair.invariant.from;
+  rest = copied-pair _ _ _ _ _ _ _ _ c.in-Some-pair.ensures.steps (next_pair (λ pair. pair.first.count ≡ pair.second.count) _ _ _ c.in-Some-pair.ensures.steps c.loop-pair.invariant.counts) c.copy_run-in-loop-pair.ensures.written c.loop-pair.invariant.rest;
+  len = c.copy_run-in-loop-pair.ensures.len ∙ c.loop-pair.invariant.len;
+  counts = All-rest (λ pair. pair.first.count ≡ pair.second.count) _ _ _ c.in-Some-pair.ensures.steps c.loop-pair.invariant.counts;
+  to = All-rest (λ pair. EachWithin (length c.args.block.now) pair.first.offset pair.first.step c.args.width pair.first.count) _ _ _ c.in-Some-pair.ensures.steps c.loop-pair.invariant.to;
+  from = All-rest (λ pair. EachWithin (length c.args.other.now) pair.second.offset pair.second.step c.args.width pair.second.count) _ _ _ c.in-Some-pair.ensures.steps c.loop-pair.invariant.from;
 }

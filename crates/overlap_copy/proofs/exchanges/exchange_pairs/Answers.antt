@@ -27,23 +27,23 @@ loop-pair-init c =
       from = walked-within (length c.args.other.now) c.args.width (λ pair. pair.second) _ _ _ refl (new.second_lie max_bytes 1 c.args.src.now.within_limit) new.second c.requires.src;
     })
 
-pub trade_run-requires-2 : goal.trade_run-requires-2
-trade_run-requires-2 c = record {
-  count = next_pair (λ pair. pair.first.count ≡ pair.second.count) _ _ _ c.in-Some-next.ensures.steps c.loop-pair.invariant.counts;
-  to = subst (λ n. EachWithin n c.in-Some-next.pair.first.offset c.in-Some-next.pair.first.step c.args.width c.in-Some-next.pair.first.count) (sym c.loop-pair.invariant.len)
-      (next_pair (λ pair. EachWithin (length c.args.block.now) pair.first.offset pair.first.step c.args.width pair.first.count) _ _ _ c.in-Some-next.ensures.steps c.loop-pair.invariant.to);
-  from = subst (λ n. EachWithin n c.in-Some-next.pair.second.offset c.in-Some-next.pair.second.step c.args.width c.in-Some-next.pair.second.count) (sym c.loop-pair.invariant.other_len)
-      (next_pair (λ pair. EachWithin (length c.args.other.now) pair.second.offset pair.second.step c.args.width pair.second.count) _ _ _ c.in-Some-next.ensures.steps c.loop-pair.invariant.from);
+pub trade_run-requires-in-loop-pair : goal.trade_run-requires-in-loop-pair
+trade_run-requires-in-loop-pair c = record {
+  count = next_pair (λ pair. pair.first.count ≡ pair.second.count) _ _ _ c.in-Some-pair.ensures.steps c.loop-pair.invariant.counts;
+  to = subst (λ n. EachWithin n c.in-Some-pair.pair.first.offset c.in-Some-pair.pair.first.step c.args.width c.in-Some-pair.pair.first.count) (sym c.loop-pair.invariant.len)
+      (next_pair (λ pair. EachWithin (length c.args.block.now) pair.first.offset pair.first.step c.args.width pair.first.count) _ _ _ c.in-Some-pair.ensures.steps c.loop-pair.invariant.to);
+  from = subst (λ n. EachWithin n c.in-Some-pair.pair.second.offset c.in-Some-pair.pair.second.step c.args.width c.in-Some-pair.pair.second.count) (sym c.loop-pair.invariant.other_len)
+      (next_pair (λ pair. EachWithin (length c.args.other.now) pair.second.offset pair.second.step c.args.width pair.second.count) _ _ _ c.in-Some-pair.ensures.steps c.loop-pair.invariant.from);
 }
 
 pub loop-pair-preserved : goal.loop-pair-preserved
 loop-pair-preserved c = record {
-  rest = traded-pair _ _ _ _ _ _ _ c.in-Some-next.ensures.steps (next_pair (λ pair. pair.first.count ≡ pair.second.count) _ _ _ c.in-Some-next.ensures.steps c.loop-pair.invariant.counts) c.trade_run-2.ensures.traded c.loop-pair.invariant.rest;
-  len = c.trade_run-2.ensures.len ∙ c.loop-pair.invariant.len;
-  other_len = c.trade_run-2.ensures.other_len ∙ c.loop-pair.invariant.other_len;
-  counts = All-rest (λ pair. pair.first.count ≡ pair.second.count) _ _ _ c.in-Some-next.ensures.steps c.loop-pair.invariant.counts;
-  to = All-rest (λ pair. EachWithin (length c.args.block.now) pair.first.offset pair.first.step c.args.width pair.first.count) _ _ _ c.in-Some-next.ensures.steps c.loop-pair.invariant.to;
-  from = All-rest (λ pair. EachWithin (length c.args.other.now) pair.second.offset pair.second.step c.args.width pair.second.count) _ _ _ c.in-Some-next.ensures.steps c.loop-pair.invariant.from;
+  rest = traded-pair _ _ _ _ _ _ _ c.in-Some-pair.ensures.steps (next_pair (λ pair. pair.first.count ≡ pair.second.count) _ _ _ c.in-Some-pair.ensures.steps c.loop-pair.invariant.counts) c.trade_run-in-loop-pair.ensures.traded c.loop-pair.invariant.rest;
+  len = c.trade_run-in-loop-pair.ensures.len ∙ c.loop-pair.invariant.len;
+  other_len = c.trade_run-in-loop-pair.ensures.other_len ∙ c.loop-pair.invariant.other_len;
+  counts = All-rest (λ pair. pair.first.count ≡ pair.second.count) _ _ _ c.in-Some-pair.ensures.steps c.loop-pair.invariant.counts;
+  to = All-rest (λ pair. EachWithin (length c.args.block.now) pair.first.offset pair.first.step c.args.width pair.first.count) _ _ _ c.in-Some-pair.ensures.steps c.loop-pair.invariant.to;
+  from = All-rest (λ pair. EachWithin (length c.args.other.now) pair.second.offset pair.second.step c.args.width pair.second.count) _ _ _ c.in-Some-pair.ensures.steps c.loop-pair.invariant.from;
 }
 
 runs_traded : (c : After-trade_run) → ◌≡◌ {A = List ℕ × List ℕ} (c.trade_run.new.block, c.trade_run.new.other)

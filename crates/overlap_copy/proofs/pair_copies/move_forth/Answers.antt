@@ -46,14 +46,14 @@ returns-then-to-from-clause-moved c =
 
 pub copy_one_by_one-requires-2 : goal.copy_one_by_one-requires-2
 copy_one_by_one-requires-2 c =
-    let back = back-alike (length c.args.block.now) c.args.width c.args.to c.args.from c.turned-to.result c.turned-from.result c.requires.alike c.turned-to.ensures c.turned-from.ensures in
-    let from = c.turned-from.result in
+    let back = back-alike (length c.args.block.now) c.args.width c.args.to c.args.from c.turned.result c.turned-2.result c.requires.alike c.turned.ensures c.turned-2.ensures in
+    let from = c.turned-2.result in
     record { count = sym back.count; to = back.to_in; from = subst (EachWithin (length c.args.block.now) from.offset from.step c.args.width) (sym back.count) back.from_in }
 
 pub returns-clause-moved : goal.returns-clause-moved
 returns-clause-moved c =
-    let to = c.turned-to.result in
-    let from = c.turned-from.result in
+    let to = c.turned.result in
+    let from = c.turned-2.result in
     let old = c.args.block.now in
     subst (IsAssigned c.args.to.count (place_in c.args.to) (place_in c.args.from) c.args.width old old) (sym c.copy_one_by_one-2.ensures.copied)
-    (moved_backwards c.args.width old c.args.to c.args.from c.requires.alike c.requires.rising to from c.turned-to.ensures c.turned-from.ensures (omega (arith, c.if-to-from.false)))
+    (moved_backwards c.args.width old c.args.to c.args.from c.requires.alike c.requires.rising to from c.turned.ensures c.turned-2.ensures (omega (arith, c.if-to-from.false)))

@@ -33,22 +33,22 @@ rises (negsuc n) below = omega (arith, ints)
 
 pub move_forth-requires : goal.move_forth-requires
 move_forth-requires c =
-    let to = c.turned-to.result in
-    let from = c.turned-from.result in
+    let to = c.turned.result in
+    let from = c.turned-then-to-lt0.result in
     let fits : SFits w64 c.args.to.step = search rules in
     let below = under c.args.to.step (ap (λ z. int_lt z (pos 0)) (sym (to_z-of_z w64 c.args.to.step fits)) ∙ c.if-to-lt0.true) in
     record {
-      to_limit = back-line c.args.to to c.turned-to.ensures (record { two = omega (arith, c.if-to-lt2.false); few = c.requires.few; lies = c.requires.to_limit });
-      from_limit = back-line c.args.from from c.turned-from.ensures (record { two = omega (arith, c.if-to-lt2.false, c.requires.count); few = omega (arith, c.requires.few, c.requires.count); lies = c.requires.from_limit });
-      alike = back-alike (length c.args.block.now) c.args.width c.args.to c.args.from to from (alike (goal.at.move_forth-requires c).Else-to-lt2) c.turned-to.ensures c.turned-from.ensures;
-      rising = subst (λ s. pos 0 ≤ℤ s) (sym c.turned-to.ensures.step) (rises c.args.to.step below);
+      to_limit = back-line c.args.to to c.turned.ensures (record { two = omega (arith, c.if-to-lt2.false); few = c.requires.few; lies = c.requires.to_limit });
+      from_limit = back-line c.args.from from c.turned-then-to-lt0.ensures (record { two = omega (arith, c.if-to-lt2.false, c.requires.count); few = omega (arith, c.requires.few, c.requires.count); lies = c.requires.from_limit });
+      alike = back-alike (length c.args.block.now) c.args.width c.args.to c.args.from to from (alike (goal.at.move_forth-requires c).Else-to-lt2) c.turned.ensures c.turned-then-to-lt0.ensures;
+      rising = subst (λ s. pos 0 ≤ℤ s) (sym c.turned.ensures.step) (rises c.args.to.step below);
     }
 
 pub returns-then-to-lt0-clause-written : goal.returns-then-to-lt0-clause-written
 returns-then-to-lt0-clause-written c =
     let new = c.move_forth.new.block in
     assigned_from_moves c.args.to c.args.from c.args.width c.args.block.now new (sym c.requires.count) c.requires.to c.requires.from c.requires.nested
-    (back-moved (length c.args.block.now) c.args.width c.args.to c.args.from c.turned-to.result c.turned-from.result (alike (goal.at.returns-then-to-lt0-clause-written c).Else-to-lt2) c.turned-to.ensures c.turned-from.ensures c.args.block.now new c.move_forth.ensures.moved)
+    (back-moved (length c.args.block.now) c.args.width c.args.to c.args.from c.turned.result c.turned-then-to-lt0.result (alike (goal.at.returns-then-to-lt0-clause-written c).Else-to-lt2) c.turned.ensures c.turned-then-to-lt0.ensures c.args.block.now new c.move_forth.ensures.moved)
 
 pub move_forth-requires-2-clause-alike : goal.move_forth-requires-2-clause-alike
 move_forth-requires-2-clause-alike c = alike (goal.at.move_forth-requires-2-clause-alike c).Else-to-lt2

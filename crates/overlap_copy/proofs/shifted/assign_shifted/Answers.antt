@@ -12,12 +12,14 @@ loop-run-init c =
     let order = c.new-order.result in
     let len = length c.args.block.now in
     let width = c.args.width in
-    let come = come-in_order dst src c.requires.shape c.requires.strides order len width (nat_lt src.offset dst.offset) refl (c.new-order.ensures.order width c.requires.item c.requires.stacked) c.runs.ensures.few c.new-order.ensures.only c.requires.dst c.requires.src in
-    rw (c.into_iter-run-iterator.ensures.into_iter_gives, c.runs.ensures.offsets) (record {
-      moving = moving_begins order (sources dst.offset src.offset order) width c.args.block.now come.targets (sources-end len width dst.offset src.offset order come);
+    let come = come-in_order dst src c.requires.shape c.requires.strides order len width (nat_lt src.offset dst.offset) refl (c.new-order.ensures.order width c.requires.item c.requires.stacked) c.runs-run-items.ensures.few c.new-order.ensures.only c.requires.dst c.requires.src in
+    let in_order = nested-in_order order width (nat_lt src.offset dst.offset) (c.new-order.ensures.order width c.requires.item c.requires.stacked) in
+    let same = assigned-order dst src c.requires.shape c.requires.strides order width c.args.block.now c.new-order.ensures.all c.new-order.ensures.only c.requires.dst c.requires.src (c.new-order.ensures.nested width c.requires.item c.requires.stacked) in_order in
+    rw (c.into_iter-run-iterator.ensures.into_iter_gives, c.runs-run-items.ensures.offsets) (record {
+      moving = subst (IsMoving order (sources dst.offset src.offset order) width c.args.block.now c.args.block.now) same (moving_begins order (sources dst.offset src.offset order) width c.args.block.now come.targets (sources-end len width dst.offset src.offset order come));
       come = come;
-      some = c.runs.ensures.some;
-      begin = c.runs.ensures.begin;
+      some = c.runs-run-items.ensures.some;
+      begin = c.runs-run-items.ensures.begin;
     })
 
 pub source_of-other-requires-clause-from : goal.source_of-other-requires-clause-from
@@ -58,14 +60,3 @@ loop-run-preserved c =
       some = All-rest (λ r. 1 ≤ r.count) _ _ _ steps c.loop-run.invariant.some;
       begin = All-rest (λ r. LieWithin (r.count ∷ []) (r.step ∷ []) r.offset max_bytes 1) _ _ _ steps c.loop-run.invariant.begin;
     }
-
-pub returns-clause-written : goal.returns-clause-written
-returns-clause-written c =
-    let dst = c.args.dst.now in
-    let src = c.args.src.now in
-    let order = c.new-order in
-    let width = c.args.width in
-    let in_order = nested-in_order order.result width (nat_lt src.offset dst.offset) (order.ensures.order width c.requires.item c.requires.stacked) in
-    ap (λ rs. assigned (flat_map run_offsets rs) (sources dst.offset src.offset (flat_map run_offsets rs)) width c.args.block.now c.loop-run.block) (sym c.in-None.ensures.steps.0)
-    ∙ c.loop-run.invariant.moving.rest
-    ∙ assigned-order dst src c.requires.shape c.requires.strides order.result width c.args.block.now order.ensures.all order.ensures.only c.requires.dst c.requires.src (order.ensures.nested width c.requires.item c.requires.stacked) in_order
