@@ -1,6 +1,6 @@
 //! The items of a layout, adjacent in a block of their own.
-ghost use Rattle.std.specs.Prelude.{All, IfOk, IsTrue, length, pos, ◌*◌, ◌++◌, ◌+◌, ◌<◌, ◌^◌, ◌≡◌, ◌≤◌};
-ghost use Rattle.arrays.specs.Clauses.{assigned, items_at, joined_at, row_offsets, EachWithin, is_c_contiguous, item_at, multiples, offsets, run_offsets, grid_of};
+ghost use Rattle.std.specs.Prelude.{All, IfOk, length, pos, ◌*◌, ◌++◌, ◌+◌, ◌<◌, ◌^◌, ◌≡◌, ◌≤◌};
+ghost use Rattle.arrays.specs.Clauses.{assigned, items_at, joined_at, EachWithin, item_at, multiples, offsets, run_offsets, grid_of};
 
 use crate::copies::{copy_run, strided};
 use raw_block::{BlockBuilder, Grid, RawBlock};

@@ -1,6 +1,6 @@
 //! Exchanges items of two blocks in one pass.
 ghost use Rattle.std.specs.Prelude.{◌≡◌, ◌+◌, ◌≤◌, length, All};
-ghost use Rattle.overlap_copy.specs.Clauses.{count, offsets, IsNested, run_offsets, assigned, items_at, RunLies, firsts, seconds, traded_at};
+ghost use Rattle.overlap_copy.specs.Clauses.{count, offsets, IsNested, run_offsets, assigned, items_at, RunLies, traded_at};
 
 use crate::pair_copies::as_runs;
 use arrays::strided;

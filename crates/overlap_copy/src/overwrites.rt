@@ -1,6 +1,6 @@
 //! Writes items over others and keeps the old ones, in a single pass.
 ghost use Rattle.std.specs.Prelude.{◌≡◌, ◌+◌, ◌*◌, ◌++◌, ◌<◌, ◌≤◌, length, replicate, All, IfOk, IfErr};
-ghost use Rattle.overlap_copy.specs.Clauses.{BeginsWithin, IsNested, assigned, count, items_at, joined_at, max_items, multiples, offsets, run_offsets, with_items, RunLies, firsts, seconds};
+ghost use Rattle.overlap_copy.specs.Clauses.{BeginsWithin, IsNested, assigned, count, items_at, joined_at, max_items, multiples, offsets, run_offsets, with_items, RunLies};
 
 use arrays::{copy_run, push_run};
 use raw_block::{BlockBuilder, RawBlock};

@@ -1,10 +1,10 @@
 //! Pairs of runs: copies or moves the items of the second run to the first.
-ghost use Rattle.std.specs.Prelude.{All, IfSome, IsTrue, length, neg_ℤ, pos, ◌*ℤ◌, ◌*◌, ◌+ℤ◌, ◌↔◌, ◌≡◌, ◌≤ℤ◌, ◌≤◌};
-ghost use Rattle.overlap_copy.specs.Clauses.{BeginsWithin, IsNested, assigned, copied_within, max_bytes, max_items, offsets, run_offsets, AreAlike, IsAssigned, IsLine, IsTurned, LieApart, RunLies, firsts, place_in, seconds};
+ghost use Rattle.std.specs.Prelude.{IfSome, IsTrue, length, neg_ℤ, pos, ◌*ℤ◌, ◌*◌, ◌+ℤ◌, ◌↔◌, ◌≡◌, ◌≤ℤ◌, ◌≤◌};
+ghost use Rattle.overlap_copy.specs.Clauses.{BeginsWithin, IsNested, assigned, copied_within, max_bytes, max_items, offsets, run_offsets, AreAlike, IsAssigned, IsLine, IsTurned, LieApart, RunLies, place_in};
 
-use arrays::{copy_run, strided};
+use arrays::strided;
 use raw_block::RawBlock;
-use shape_strides::{Layout, Run, RunPair, RunPairs};
+use shape_strides::{Layout, Run, RunPair};
 
 /// The two layouts as runs, if each of them is a single run.
 pub(crate) fn as_runs(first: &Layout, second: &Layout) -> Option<RunPair>

@@ -1,6 +1,6 @@
 //! Assignment between layouts of the same shape and strides, without memory.
-ghost use Rattle.std.specs.Prelude.{◌≡◌, ◌+◌, ◌≤◌, [], ◌∷◌, length, All};
-ghost use Rattle.overlap_copy.specs.Clauses.{flat_map, max_bytes, LieWithin, offsets, Fits, run_offsets, IsStacked, assigned, sources, source_run, MayCome};
+ghost use Rattle.std.specs.Prelude.{◌≡◌, ◌+◌, ◌≤◌, length};
+ghost use Rattle.overlap_copy.specs.Clauses.{max_bytes, offsets, Fits, IsStacked, assigned, source_run};
 
 use crate::pair_copies::move_run;
 use raw_block::RawBlock;

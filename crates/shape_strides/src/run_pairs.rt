@@ -1,5 +1,5 @@
 //! The items of two layouts with the same number of items, run by run.
-ghost use Rattle.std.specs.Prelude.{◌≡◌, [], ◌∷◌, ◌<◌, ◌≤◌, ℕ, ℤ, pos, ◌+ℤ◌, ◌*ℤ◌, ◌≤ℤ◌, length, All};
+ghost use Rattle.std.specs.Prelude.{◌≡◌, ◌<◌, ◌≤◌, ℕ, ℤ, pos, ◌+ℤ◌, ◌*ℤ◌, ◌≤ℤ◌, length, All};
 ghost use Rattle.shape_strides.specs.Words.{flat_map};
 ghost use Rattle.shape_strides.specs.Limits.{max_items, max_bytes};
 ghost use Rattle.shape_strides.specs.Indexes.{count};

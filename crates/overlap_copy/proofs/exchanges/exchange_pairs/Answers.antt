@@ -1,5 +1,5 @@
-use Rattle.std.proofs.Common.{◌≡◌, ◌+◌, ◌≤◌, ℕ, List, All, length, refl, sym, subst, ap, ◌∙◌}
-use Rattle.overlap_copy.proofs.Words.{max_bytes, All-rest, EachWithin, next_pair, Layout, count, offsets, IsNested, assigned, walked-within, even, traded_at, firsts, seconds}
+use Rattle.std.proofs.Common.{◌≡◌, ℕ, List, length, refl, sym, subst, ap, ◌∙◌}
+use Rattle.overlap_copy.proofs.Words.{max_bytes, All-rest, EachWithin, next_pair, offsets, assigned, walked-within, even, traded_at, firsts, seconds}
 use Rattle.overlap_copy.proofs.PairCopies.{as_many, one-within}
 use Rattle.overlap_copy.proofs.TradeLaws.{traded-apart, traded-pair}
 use Rattle.overlap_copy.proofs.exchanges.exchange_pairs.Goals as goal

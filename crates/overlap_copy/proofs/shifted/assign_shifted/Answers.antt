@@ -1,5 +1,5 @@
-use Rattle.std.proofs.Common.{◌≤◌, [], ◌∷◌, length, All, nat_lt, refl, sym, ap, subst, ◌∙◌}
-use Rattle.overlap_copy.proofs.Words.{flat_map, All-rest, EachWithin, max_bytes, LieWithin, run_offsets, assigned, sources, MayCome}
+use Rattle.std.proofs.Common.{◌≤◌, [], ◌∷◌, length, nat_lt, refl, sym, ap, subst, ◌∙◌}
+use Rattle.overlap_copy.proofs.Words.{All-rest, EachWithin, max_bytes, LieWithin, run_offsets, assigned, sources}
 use Rattle.overlap_copy.proofs.ComeLaws.{offset-within, assigned-order, come-in_order, nested-in_order}
 use Rattle.overlap_copy.proofs.MovingLaws.{IsMoving, moving_begins}
 use Rattle.overlap_copy.proofs.ShiftLaws.{sources-end, next-come, later-come, next-within, next-start, next-low, next-few, next-source-lies, next-source-within, run-moved}
