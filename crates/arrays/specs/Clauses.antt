@@ -2,7 +2,6 @@
 pub use Rattle.arrays.specs.Assignments.{assigned, items_at}
 pub use Rattle.arrays.specs.Blocks.{FillsBlock, offsets_in}
 pub use Rattle.arrays.specs.Joined.{joined_at}
-pub use Rattle.arrays.specs.Packed.{row_offsets}
-pub use Rattle.arrays.specs.Words.{C, EachWithin, OutOfMemory, TooLarge, count, is_c_contiguous, item_at, item_from, item_size, max_bytes, multiples, run_offsets}
+pub use Rattle.arrays.specs.Words.{C, EachWithin, OutOfMemory, TooLarge, count, item_at, item_from, item_size, max_bytes, multiples, run_offsets}
 unfoldable pub use Rattle.arrays.specs.Words.{offsets}
 pub use Rattle.arrays.specs.inside.Rows.{grid_of}

@@ -1,5 +1,5 @@
-use Rattle.std.proofs.Common.{◌+◌, ◌*◌, ◌++◌, length, All, refl, sym, ap, subst, ◌∙◌, append-nil, arith}
-use Rattle.arrays.proofs.Words.{All-rest, All-head, EachWithin, Run, max_bytes, all_offsets, joined_at, walked-within}
+use Rattle.std.proofs.Common.{◌*◌, ◌++◌, length, All, refl, ap, subst, ◌∙◌, arith}
+use Rattle.arrays.proofs.Words.{All-rest, All-head, EachWithin, Run, max_bytes, joined_at, walked-within}
 use Rattle.arrays.proofs.PackedLaws.{parts, joined-next}
 use Rattle.arrays.proofs.packed.push_layout.Goals as goal
 

@@ -1,5 +1,5 @@
 use Rattle.std.proofs.Common.{◌≡◌, pos, map, length, reverse, sym, ap, ◌∙◌}
-use Rattle.shape_strides.proofs.Words.{count, offsets}
+use Rattle.shape_strides.proofs.Words.{count}
 use Rattle.shape_strides.proofs.FortranLaws.{reversed, offsets-reversed}
 use Rattle.shape_strides.proofs.layout.Layout.reversed.Goals as goal
 use Rattle.shape_strides.proofs.layout.Layout.reversed.Goals.{After-reverse-2}
