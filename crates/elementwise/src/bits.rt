@@ -20,7 +20,7 @@ pub(crate) fn magnitude(negative: bool, bits: u64) -> u64
 
 /// The bits of a quotient, rounded down. Division by 0 gives 0.
 #[inline(always)]
-fn quotient(signed: bool, left: u64, right: u64) -> u64
+pub(crate) fn quotient(signed: bool, left: u64, right: u64) -> u64
     ensures { result
         ≡ low_bits 8 (floor_quotient (integer signed 8 left) (integer signed 8 right)) }
 {
@@ -37,22 +37,22 @@ fn quotient(signed: bool, left: u64, right: u64) -> u64
     !((size - 1) / divisor)
 }
 
-/// The bits of a quotient or a remainder. Division by 0 gives 0.
+/// The bits of a quotient, or of the remainder that it leaves. Division by 0 gives 0.
 #[inline(always)]
-pub(crate) fn division(leaves: bool, signed: bool, left: u64, right: u64) -> u64
-    ensures { (scalar : Scalar)
+pub(crate) fn division(leaves: bool, left: u64, right: u64, quotient: u64) -> u64
+    ensures { (signed : Bool) (scalar : Scalar)
+        → quotient ≡ low_bits 8 (floor_quotient (integer signed 8 left) (integer signed 8 right))
         → result
         ≡ low_bits 8
         (exact (division_op leaves) scalar (integer signed 8 left) (integer signed 8 right)) }
 {
-    let whole = quotient(signed, left, right);
     if !leaves {
-        return whole;
+        return quotient;
     }
     if right == 0 {
         return 0;
     }
-    left.wrapping_sub(right.wrapping_mul(whole))
+    left.wrapping_sub(right.wrapping_mul(quotient))
 }
 
 /// The bits of a number of `width` bits, shifted left. The shift itself is by less than `width`,

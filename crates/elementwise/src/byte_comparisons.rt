@@ -1,5 +1,5 @@
 //! Comparisons of all items of arrays of byte strings with bytes.
-ghost use Rattle.std.specs.Prelude.{IfOk, [], length, map, ◌∷◌, ◌≡◌, ◌≤◌};
+ghost use Rattle.std.specs.Prelude.{IfOk, [], map, ◌∷◌, ◌≡◌};
 ghost use Rattle.elementwise.specs.Clauses.{ScalarDescr, bytes_compared_result, compared_item, Bytes, C, Gives, encode_item, item_from, item_size, offsets, offsets_in, owned_items, text, without_nuls, AreComparedWith, flat_map};
 
 use crate::byte_string_pairs::without_nuls;
@@ -11,7 +11,7 @@ use crate::row_pairs::Operands;
 use arrays::{Items, Owned};
 use broadcasting::repeats;
 use elem_descr::{BytesLen, Comparison, Refusal, Scalar};
-use raw_block::{BlockBuilder, RawBlock};
+use raw_block::BlockBuilder;
 use std::alloc::{AllocError, Global};
 
 /// Compares the byte strings of an array with one that does not end with NULs.
@@ -63,36 +63,6 @@ fn compare_once(
     spread(alloc, &made, &layout.shape)
 }
 
-/// Bytes, padded with NULs.
-fn filled_up(alloc: Global, width: BytesLen, bytes: &[u8]) -> Result<RawBlock, AllocError>
-    requires { length bytes.now ≤ width }
-    ensures len { IfOk result (λ b. length b ≡ width) }
-    ensures same { IfOk result (λ b. without_nuls b ≡ without_nuls bytes.now) }
-{
-    let width = width.get();
-    let mut block = BlockBuilder::try_new(alloc, width)?;
-    block.push_bytes(bytes);
-    block.push_zeros(width - bytes.len());
-    Ok(block.finish())
-}
-
-/// Compares the byte strings of an array with bytes that fit into an item.
-fn compare_with_item(
-    alloc: Global,
-    comparison: Comparison,
-    width: BytesLen,
-    operand: Items<'_>,
-    bytes: &[u8],
-) -> Result<Owned, AllocError>
-    requires from { operand.descr.now ≡ ScalarDescr (Bytes width) }
-    requires held { length bytes.now ≤ width }
-    ensures { IfOk result
-        (AreComparedWith comparison operand.entry (text (without_nuls bytes.now))) }
-{
-    let block = filled_up(alloc, width, bytes)?;
-    compare_with_one(alloc, comparison, operand, &Scalar::Bytes(width), block)
-}
-
 /// Compares the byte strings of an array with bytes, which may be longer than an item. Returns
 /// bools in a block of their own in C order. Trailing NULs of the bytes do not count. Records and
 /// numbers are refused as `NotForThisKind`.
@@ -116,8 +86,13 @@ pub fn compare_bytes(
     let Scalar::Bytes(width) = from else {
         return Err(Refusal::NotForThisKind);
     };
-    if bytes.len() <= width.get() {
-        return Ok(compare_with_item(alloc, comparison, width, operand, bytes)?);
+    let len = width.get();
+    if bytes.len() <= len {
+        let mut item = BlockBuilder::try_new(alloc, len)?;
+        item.push_bytes(bytes);
+        item.push_zeros(len - bytes.len());
+        let item = item.finish();
+        return Ok(compare_with_one(alloc, comparison, operand, &from, item)?);
     }
     Ok(compare_once(alloc, comparison, width, operand, without_nuls(bytes))?)
 }

@@ -1,7 +1,8 @@
 //! Divisions of pairs of unsigned numbers of one byte, by a table of reciprocals.
 ghost use Rattle.std.specs.Prelude.{false, get_or, ℕ, ◌*◌, ◌++◌, ◌+◌, ◌-◌, ◌/◌, ◌<◌, ◌^◌, ◌≡◌, ◌≤◌};
-ghost use Rattle.elementwise.specs.Clauses.{binary, exact, floor_quotient, Little, Scalar, integer, joined, low_bits, division_op, number_pair, made_of, pair_count};
+ghost use Rattle.elementwise.specs.Clauses.{binary, floor_quotient, Little, integer, joined, low_bits, division_op, number_pair, made_of, pair_count};
 
+use crate::bits;
 use crate::operands::note_slice;
 use crate::pairing::Pairs;
 use machine_numbers::{LowFirst, Number, Ordered};
@@ -34,26 +35,6 @@ impl Reciprocals {
     {
         (left * self.each[right as usize]) >> 16
     }
-
-    /// The bits of the quotient or the remainder of two bytes.
-    #[inline(always)]
-    fn division(&self, leaves: bool, left: u64, right: u64) -> u64
-        requires left { left < 256 }
-        requires right { right < 256 }
-        ensures { (scalar : Scalar)
-            → result
-            ≡ low_bits 8
-            (exact (division_op leaves) scalar (integer false 8 left) (integer false 8 right)) }
-    {
-        let quotient = self.quotient(left, right);
-        if !leaves {
-            return quotient;
-        }
-        if right == 0 {
-            return 0;
-        }
-        left.wrapping_sub(right.wrapping_mul(quotient))
-    }
 }
 
 /// Appends the quotients or remainders of pairs of unsigned numbers of one byte.
@@ -77,9 +58,9 @@ pub(crate) fn push_divided_bytes<const LEAVES: bool, N: Number, O: Ordered>(
     let reciprocals = Reciprocals::new();
     let mut block = block;
     for k in 0..pairs.left.run.count {
-        let left = pairs.left.number::<N, O>(k);
-        let right = pairs.right.number::<N, O>(k);
-        let bits = reciprocals.division(LEAVES, left.bits(), right.bits());
+        let left = pairs.left.number::<N, O>(k).bits();
+        let right = pairs.right.number::<N, O>(k).bits();
+        let bits = bits::division(LEAVES, left, right, reciprocals.quotient(left, right));
         N::of_bits(bits).push::<LowFirst>(&mut block);
     }
     block

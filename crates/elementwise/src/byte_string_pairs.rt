@@ -1,6 +1,6 @@
 //! Comparisons of byte strings, row by row.
 ghost use Rattle.std.proofs.Common.{arith};
-ghost use Rattle.std.specs.Prelude.{◌≡◌, ◌≤◌};
+ghost use Rattle.std.specs.Prelude.{◌≡◌};
 ghost use Rattle.elementwise.specs.Clauses.{BoolScalar, compared, encode, text, without_nuls, text_pair, truth_value};
 
 use crate::byte_strings::{shared_words, word_at};
@@ -87,11 +87,8 @@ impl<'a> Pass for ComparingWith<'a> {
     fn push_row(&self, block: BlockBuilder, pairs: Pairs<'_, '_>) -> BlockBuilder {
         let mut block = block;
         for k in 0..pairs.left.run.count {
-            let says = are_compared(
-                self.comparison,
-                without_nuls(pairs.left.item(k)),
-                self.other,
-            );
+            let left = without_nuls(pairs.left.item(k));
+            let says = are_compared(self.comparison, left, self.other);
             says.push::<LowFirst>(&mut block);
         }
         block

@@ -27,20 +27,9 @@ fn longest(block: &[u8], layout: &Layout, width: usize) -> usize
     most
 }
 
-/// The length to which the byte strings of an array can be cut: that of the longest one. Items that
-/// repeat are looked at once.
-fn trimmed(alloc: Global, items: Items<'_>, width: BytesLen) -> Result<BytesLen, AllocError>
-    requires { items.descr.now ≡ ScalarDescr (Bytes width) }
-    ensures { IfOk result (CanCut items.entry width) }
-{
-    let layout = items.layout;
-    let small = without_repeats(alloc, layout, layout, &layout.shape)?;
-    let most = longest(items.block.bytes(), &small.first, width.get());
-    Ok(BytesLen::try_new(most).unwrap())
-}
-
-/// `trimmed`, if the array is stretched to a shape with more items and compared with byte strings
-/// of another length; otherwise the length of its items.
+/// The length to which the byte strings of an array can be cut: that of the longest one, if the
+/// array is stretched to a shape with more items and compared with byte strings of another length;
+/// otherwise that of its items. Items that repeat are looked at once.
 pub(crate) fn trimmed_in(
     alloc: Global,
     items: Items<'_>,
@@ -51,11 +40,15 @@ pub(crate) fn trimmed_in(
     requires { items.descr.now ≡ ScalarDescr (Bytes width) }
     ensures { IfOk result (CanCut items.entry width) }
 {
-    let shown_again = repeats(items.layout) || items.layout.shape.items() < shape.items();
-    if shown_again && width.get() != other_width.get() {
-        return trimmed(alloc, items, width);
+    let layout = items.layout;
+    let len = width.get();
+    let shown_again = repeats(layout) || layout.shape.items() < shape.items();
+    if !shown_again || len == other_width.get() {
+        return Ok(width);
     }
-    Ok(width)
+    let small = without_repeats(alloc, layout, layout, &layout.shape)?;
+    let most = longest(items.block.bytes(), &small.first, len);
+    Ok(BytesLen::try_new(most).unwrap())
 }
 
 /// How many whole words, in bytes, two byte strings have in common at the front.

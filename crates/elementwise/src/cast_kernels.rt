@@ -2,7 +2,7 @@
 ghost use Rattle.std.specs.Prelude.{◌*◌, ◌++◌, ◌+◌, ◌≡◌, ◌≤◌};
 ghost use Rattle.elementwise.specs.Clauses.{IsNumber, Little, item_size, size, wrap, made_of_all, pairs_of, number_pair};
 
-use crate::kernels::{Kernel, push_made};
+use crate::kernels::{Kernel, append};
 use crate::row_pairs::Operands;
 use elem_descr::{Order, Scalar, Width};
 use machine_numbers::{HighFirst, LowFirst, Number, Ordered};
@@ -38,25 +38,23 @@ pub(crate) fn cast<S: Number, P: Ordered>(
     ensures left { pairs_of operands.entry * size scalar.now + result.1 ≡ block.1 }
 {
     match scalar {
-        Scalar::Bool => push_made::<Casting, S, S, bool, P, LowFirst>(block, operands),
-        Scalar::Byte { .. } => push_made::<Casting, S, S, u8, P, LowFirst>(block, operands),
+        Scalar::Bool => append::<Casting, S, S, bool, P, LowFirst>(block, operands),
+        Scalar::Byte { .. } => append::<Casting, S, S, u8, P, LowFirst>(block, operands),
         Scalar::Int { width, order, .. } => match (width, order) {
-            (Width::Two, Order::Little) => push_made::<Casting, S, S, u16, P, LowFirst>(
+            (Width::Two, Order::Little) => append::<Casting, S, S, u16, P, LowFirst>(
                 block, operands,
             ),
-            (Width::Two, Order::Big) => push_made::<Casting, S, S, u16, P, HighFirst>(
+            (Width::Two, Order::Big) => append::<Casting, S, S, u16, P, HighFirst>(block, operands),
+            (Width::Four, Order::Little) => append::<Casting, S, S, u32, P, LowFirst>(
                 block, operands,
             ),
-            (Width::Four, Order::Little) => push_made::<Casting, S, S, u32, P, LowFirst>(
+            (Width::Four, Order::Big) => append::<Casting, S, S, u32, P, HighFirst>(
                 block, operands,
             ),
-            (Width::Four, Order::Big) => push_made::<Casting, S, S, u32, P, HighFirst>(
+            (Width::Eight, Order::Little) => append::<Casting, S, S, u64, P, LowFirst>(
                 block, operands,
             ),
-            (Width::Eight, Order::Little) => push_made::<Casting, S, S, u64, P, LowFirst>(
-                block, operands,
-            ),
-            (Width::Eight, Order::Big) => push_made::<Casting, S, S, u64, P, HighFirst>(
+            (Width::Eight, Order::Big) => append::<Casting, S, S, u64, P, HighFirst>(
                 block, operands,
             ),
         },

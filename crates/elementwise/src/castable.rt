@@ -1,5 +1,5 @@
 //! Which casts exist, and which of them keep the bytes of items.
-ghost use Rattle.std.specs.Prelude.{IsTrue, length, ℕ, ◌+◌, ◌<◌, ◌↔◌, ◌≡◌, ◌≤◌};
+ghost use Rattle.std.specs.Prelude.{IsTrue, length, ℕ, ◌+◌, ◌↔◌, ◌≡◌, ◌≤◌};
 ghost use Rattle.elementwise.specs.Clauses.{can_cast, can_cast_fields, can_cast_scalar, cast_item, AreAlike, item_from, item_size, listed, can_cast_field, list_all};
 
 use crate::casts::leaf_of;

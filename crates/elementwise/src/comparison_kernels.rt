@@ -3,7 +3,7 @@ ghost use Rattle.std.specs.Prelude.{if◌then◌else◌, int_lt, pos, ◌++◌, 
 ghost use Rattle.elementwise.specs.Clauses.{BoolScalar, says, item_size, made_of_all, pairs_of, number_pair, said, says_number};
 
 use crate::bits;
-use crate::kernels::{Kernel, push_made};
+use crate::kernels::{Kernel, append};
 use crate::row_pairs::Operands;
 use elem_descr::Comparison;
 use machine_numbers::{LowFirst, Number, Ordered};
@@ -57,6 +57,18 @@ impl<const BELOW: bool, const ABOVE: bool, const HOLDS: bool, A: Number, B: Numb
     }
 }
 
+type Same = Said<true, true, false>;
+
+type Different = Said<true, true, true>;
+
+type Below = Said<true, false, true>;
+
+type AtMost = Said<false, true, false>;
+
+type Above = Said<false, true, true>;
+
+type AtLeast = Said<true, false, false>;
+
 /// A comparison of numbers of two types, which appends bools.
 #[inline(never)]
 pub(crate) fn compare<A: Number, B: Number, O: Ordered>(
@@ -74,28 +86,11 @@ pub(crate) fn compare<A: Number, B: Number, O: Ordered>(
     ensures left { pairs_of operands.entry + result.1 ≡ block.1 }
 {
     match comparison {
-        Comparison::Equal => push_made::<Said<true, true, false>, A, B, bool, O, LowFirst>(
-            block, operands,
-        ),
-        Comparison::NotEqual => push_made::<Said<true, true, true>, A, B, bool, O, LowFirst>(
-            block, operands,
-        ),
-        Comparison::Less => push_made::<Said<true, false, true>, A, B, bool, O, LowFirst>(
-            block, operands,
-        ),
-        Comparison::LessOrEqual => push_made::<Said<false, true, false>, A, B, bool, O, LowFirst>(
-            block, operands,
-        ),
-        Comparison::Greater => push_made::<Said<false, true, true>, A, B, bool, O, LowFirst>(
-            block, operands,
-        ),
-        Comparison::GreaterOrEqual => push_made::<
-            Said<true, false, false>,
-            A,
-            B,
-            bool,
-            O,
-            LowFirst,
-        >(block, operands),
+        Comparison::Equal => append::<Same, A, B, bool, O, LowFirst>(block, operands),
+        Comparison::NotEqual => append::<Different, A, B, bool, O, LowFirst>(block, operands),
+        Comparison::Less => append::<Below, A, B, bool, O, LowFirst>(block, operands),
+        Comparison::LessOrEqual => append::<AtMost, A, B, bool, O, LowFirst>(block, operands),
+        Comparison::Greater => append::<Above, A, B, bool, O, LowFirst>(block, operands),
+        Comparison::GreaterOrEqual => append::<AtLeast, A, B, bool, O, LowFirst>(block, operands),
     }
 }

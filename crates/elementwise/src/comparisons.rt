@@ -11,7 +11,7 @@ use crate::promotion::{common_type, compared_type, scalar_of};
 use crate::row_pairs::Operands;
 use arrays::{Items, Owned};
 use broadcasting::{common, repeats, stretched_to};
-use elem_descr::{Comparison, Descr, MemoryOrder, Refusal, Scalar};
+use elem_descr::{BytesLen, Comparison, Descr, MemoryOrder, Refusal, Scalar};
 use machine_numbers::{is_signed, little};
 use raw_block::RawBlock;
 use shape_strides::Shape;
@@ -67,24 +67,26 @@ fn compare_numbers(
 /// A comparison of byte strings. Trailing NULs of items that repeat are looked at once.
 fn compare_texts(
     alloc: Global,
-    texts: ComparingTexts,
+    comparison: Comparison,
+    width: BytesLen,
+    other_width: BytesLen,
     both: Broadcast<'_>,
 ) -> Result<Owned, AllocError>
-    requires left { both.left.descr.now ≡ ScalarDescr (Bytes texts.width) }
-    requires right { both.right.descr.now ≡ ScalarDescr (Bytes texts.other_width) }
-    ensures { IfOk result (AreCompared texts.comparison both.entry) }
+    requires left { both.left.descr.now ≡ ScalarDescr (Bytes width) }
+    requires right { both.right.descr.now ≡ ScalarDescr (Bytes other_width) }
+    ensures { IfOk result (AreCompared comparison both.entry) }
 {
     let Broadcast { left, right, shape } = both;
     let _items = shape.items();
-    let width = trimmed_in(alloc, left, texts.width, texts.other_width, shape)?;
-    let other_width = trimmed_in(alloc, right, texts.other_width, texts.width, shape)?;
-    let cut = Pairing::Texts(ComparingTexts {
-        comparison: texts.comparison,
-        width,
-        other_width,
+    let cut = trimmed_in(alloc, left, width, other_width, shape)?;
+    let other_cut = trimmed_in(alloc, right, other_width, width, shape)?;
+    let pairing = Pairing::Texts(ComparingTexts {
+        comparison,
+        width: cut,
+        other_width: other_cut,
     });
-    let descr = Descr::Scalar(Scalar::Bytes(width));
-    let other_descr = Descr::Scalar(Scalar::Bytes(other_width));
+    let descr = Descr::Scalar(Scalar::Bytes(cut));
+    let other_descr = Descr::Scalar(Scalar::Bytes(other_cut));
     let first = stretched_to(alloc, left.layout, shape)?;
     let second = stretched_to(alloc, right.layout, shape)?;
     let operands = Operands {
@@ -99,7 +101,7 @@ fn compare_texts(
             descr: &other_descr,
         },
     };
-    made(alloc, &cut, operands)
+    made(alloc, &pairing, operands)
 }
 
 /// A comparison of numbers, or of byte strings.
@@ -113,12 +115,7 @@ fn compare_scalars(
 {
     match (both.left.descr, both.right.descr) {
         (Descr::Scalar(Scalar::Bytes(width)), Descr::Scalar(Scalar::Bytes(other_width))) => {
-            let texts = ComparingTexts {
-                comparison,
-                width: *width,
-                other_width: *other_width,
-            };
-            compare_texts(alloc, texts, both)
+            compare_texts(alloc, comparison, *width, *other_width, both)
         }
         (Descr::Scalar(left), Descr::Scalar(right)) => {
             compare_numbers(alloc, comparison, left, right, both)
@@ -152,7 +149,7 @@ fn compare_once(
             layout: &small.second,
             descr: right.descr,
         },
-        shape: &small.shape,
+        shape: &small.first.shape,
     };
     let made = compare_scalars(alloc, comparison, once)?;
     spread(alloc, &made, shape)

@@ -36,13 +36,20 @@ fn divisor_of<N: Number, O: Ordered>(pairs: Pairs<'_, '_>) -> Option<Divisor>
         → number_of_side (N.scalar O.order) pairs.entry.right k ≡ integer N.SIGNED 8 d.bits) }
 {
     note_slice(pairs.right.bytes);
-    match pairs.right.run.step {
-        0 if pairs.right.run.count >= FEW => {
-            let divisor = pairs.right.number::<N, O>(0);
-            Divisor::new(N::SIGNED, divisor.bits())
-        }
-        _ => None,
+    if pairs.right.run.step != 0 || pairs.right.run.count < FEW {
+        return None;
     }
+    let bits = pairs.right.number::<N, O>(0).bits();
+    let size = magnitude(is_negative(N::SIGNED, bits), bits);
+    if size == 0 {
+        return None;
+    }
+    Some(Divisor {
+        signed: N::SIGNED,
+        bits,
+        size,
+        reciprocal: u64::MAX / size,
+    })
 }
 
 /// Appends the quotients or remainders of the first numbers of pairs, which all have this divisor.
@@ -93,6 +100,7 @@ impl<const LEAVES: bool, N: Number, O: Ordered> Pass for Divisions<LEAVES, N, O>
         let Pairs { left, right } = pairs;
         let near = N::WIDTH as isize;
         let many_bytes = N::WIDTH == 1 && !N::SIGNED && left.run.count >= MANY_BYTES;
+        let one_by_one = Numbers::<Dividing<LEAVES>, N, N, N, O, LowFirst>(PhantomData);
         match divisor_of::<N, O>(pairs) {
             Some(divisor) if left.run.step == near => {
                 let pairs = pairs.with_steps(N::WIDTH as isize, right.run.step);
@@ -102,11 +110,7 @@ impl<const LEAVES: bool, N: Number, O: Ordered> Pass for Divisions<LEAVES, N, O>
             None if many_bytes && left.run.step == 1 && right.run.step == 1 => {
                 push_divided_bytes::<LEAVES, N, O>(block, pairs.with_steps(1, 1))
             }
-            None => {
-                Numbers::<Dividing<LEAVES>, N, N, N, O, LowFirst>(PhantomData).push_row(
-                    block, pairs,
-                )
-            }
+            None => one_by_one.push_row(block, pairs),
         }
     }
 }
@@ -163,22 +167,6 @@ pub(crate) struct Divisor {
 }
 
 impl Divisor {
-    /// `None` for 0.
-    pub(crate) fn new(signed: bool, bits: u64) -> Option<Divisor>
-        ensures { IfSome result (λ d. (d.signed ≡ signed) × (d.bits ≡ bits)) }
-    {
-        let size = magnitude(is_negative(signed, bits), bits);
-        if size == 0 {
-            return None;
-        }
-        Some(Divisor {
-            signed,
-            bits,
-            size,
-            reciprocal: u64::MAX / size,
-        })
-    }
-
     /// A number of `width` bytes, divided by the absolute value of the divisor. It is computed with
     /// as few bits as hold both.
     #[inline(always)]

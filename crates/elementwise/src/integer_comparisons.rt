@@ -1,6 +1,6 @@
 //! Comparisons of all items of arrays of numbers with one integer.
-ghost use Rattle.std.specs.Prelude.{IfOk, [], map, ◌∷◌, ◌≡◌, ◌≢◌};
-ghost use Rattle.elementwise.specs.Clauses.{ScalarDescr, compared_item, integer_compared_result, C, Gives, IsNumber, encode_item, item_from, item_size, little, number, offsets, offsets_in, owned_items, wrap, AreComparedWith, flat_map};
+ghost use Rattle.std.specs.Prelude.{IfOk, [], map, ◌∷◌, ◌≡◌};
+ghost use Rattle.elementwise.specs.Clauses.{compared_item, integer_compared_result, C, Gives, encode_item, item_from, item_size, number, offsets, offsets_in, owned_items, flat_map};
 
 use crate::comparison_kernels::says;
 use crate::comparisons::compare_with_one;
@@ -10,50 +10,7 @@ use arrays::{Items, Owned};
 use elem_descr::{Comparison, Descr, MemoryOrder, Refusal, Scalar, is_value, num_write};
 use machine_numbers::{is_text, little};
 use raw_block::RawBlock;
-use std::alloc::{AllocError, Global};
-
-/// Compares the numbers of an array with an integer that their type holds.
-fn compare_with_value(
-    alloc: Global,
-    comparison: Comparison,
-    from: &Scalar,
-    operand: Items<'_>,
-    integer: i128,
-) -> Result<Owned, AllocError>
-    requires from { operand.descr.now ≡ ScalarDescr from.now }
-    requires number { IsNumber from.now }
-    requires held { wrap (little from.now) integer ≡ integer }
-    ensures { IfOk result (AreComparedWith comparison operand.entry (number integer)) }
-{
-    let scalar = little(from);
-    let mut block = RawBlock::try_zeroed(alloc, scalar.size())?;
-    num_write(scalar, integer, block.bytes_mut());
-    compare_with_one(alloc, comparison, operand, &scalar, block)
-}
-
-/// Compares the numbers of an array with an integer that is greater than all numbers of their type,
-/// or less: one bool for all items.
-fn compare_beyond(
-    alloc: Global,
-    comparison: Comparison,
-    from: &Scalar,
-    operand: Items<'_>,
-    integer: i128,
-) -> Result<Owned, AllocError>
-    requires from { operand.descr.now ≡ ScalarDescr from.now }
-    requires number { IsNumber from.now }
-    requires beyond { wrap (little from.now) integer ≢ integer }
-    ensures { IfOk result (AreComparedWith comparison operand.entry (number integer)) }
-{
-    note_slice(operand.block.bytes());
-    let above = integer.is_positive();
-    let holds = says(comparison, above, !above);
-    let shape = &operand.layout.shape;
-    let mut block = RawBlock::try_zeroed(alloc, shape.items())?;
-    block.bytes_mut().fill(u8::from(holds));
-    let descr = Descr::Scalar(Scalar::Bool);
-    Owned::over(alloc, descr, shape, MemoryOrder::C, block)
-}
+use std::alloc::Global;
 
 /// Compares the numbers of an array with an integer, which may be out of range for their type.
 /// Returns bools in a block of their own in C order. Records and byte strings are refused as
@@ -78,8 +35,19 @@ pub fn compare_integer(
     if is_text(&from) {
         return Err(Refusal::NotForThisKind);
     }
-    if is_value(&little(&from), integer) {
-        return Ok(compare_with_value(alloc, comparison, &from, operand, integer)?);
+    let scalar = little(&from);
+    if is_value(&scalar, integer) {
+        let mut item = RawBlock::try_zeroed(alloc, scalar.size())?;
+        num_write(scalar, integer, item.bytes_mut());
+        return Ok(compare_with_one(alloc, comparison, operand, &scalar, item)?);
     }
-    Ok(compare_beyond(alloc, comparison, &from, operand, integer)?)
+    // The integer is greater than all numbers of the type, or less: one bool for all items.
+    note_slice(operand.block.bytes());
+    let above = integer.is_positive();
+    let holds = says(comparison, above, !above);
+    let shape = &operand.layout.shape;
+    let mut bools = RawBlock::try_zeroed(alloc, shape.items())?;
+    bools.bytes_mut().fill(u8::from(holds));
+    let descr = Descr::Scalar(Scalar::Bool);
+    Ok(Owned::over(alloc, descr, shape, MemoryOrder::C, bools)?)
 }

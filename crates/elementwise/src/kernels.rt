@@ -130,15 +130,12 @@ impl<K: Kernel<A, B, T>, A: Number, B: Number, T: Number, O: Ordered, Q: Ordered
         match (pairs.left.run.step, pairs.right.run.step) {
             (a, b) if a == near && b == close => push_each::<K, A, B, T, O, Q>(
                 block,
-                pairs.with_steps(A::WIDTH as isize, B::WIDTH as isize),
+                pairs.with_steps(near, close),
             ),
-            (a, 0) if a == near => push_each::<K, A, B, T, O, Q>(
-                block,
-                pairs.with_steps(A::WIDTH as isize, 0),
-            ),
+            (a, 0) if a == near => push_each::<K, A, B, T, O, Q>(block, pairs.with_steps(near, 0)),
             (0, b) if b == close => push_each::<K, A, B, T, O, Q>(
                 block,
-                pairs.with_steps(0, B::WIDTH as isize),
+                pairs.with_steps(0, close),
             ),
             _ => push_from::<K, A, B, T, O, Q>(block, pairs, 0),
         }
@@ -146,14 +143,10 @@ impl<K: Kernel<A, B, T>, A: Number, B: Number, T: Number, O: Ordered, Q: Ordered
 }
 
 /// Appends the results of a kernel for each pair of items of operands.
-pub(crate) fn push_made<
-    K: Kernel<A, B, T>,
-    A: Number,
-    B: Number,
-    T: Number,
-    O: Ordered,
-    Q: Ordered,
->(block: BlockBuilder, operands: Operands<'_, '_>) -> BlockBuilder
+pub(crate) fn append<K: Kernel<A, B, T>, A: Number, B: Number, T: Number, O: Ordered, Q: Ordered>(
+    block: BlockBuilder,
+    operands: Operands<'_, '_>,
+) -> BlockBuilder
     requires left { item_size operands.left.descr.now ≡ A.WIDTH }
     requires right { item_size operands.right.descr.now ≡ B.WIDTH }
     requires room { pairs_of operands * T.WIDTH ≤ block.1 }

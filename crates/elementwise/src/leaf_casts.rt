@@ -123,46 +123,35 @@ impl<'a> Column<'a> {
 }
 
 /// A column of numbers that are cast to a scalar.
-struct CastingTo<'a> {
-    column: Column<'a>,
-    to: Scalar,
-}
+struct CastingTo<'a>(Column<'a>, Scalar);
 
 /// A column of numbers of a known type that are cast.
-struct CastingFrom<'a, S, P> {
-    column: Column<'a>,
-    numbers: PhantomData<(S, P)>,
-}
+struct CastingFrom<'a, S, P>(Column<'a>, PhantomData<(S, P)>);
 
 impl<'a> NumberTask for CastingTo<'a> {
     type Out = RawBlock;
 
-    ghost Needs = { λ t scalar. IsNumber t.to × (t.column.from.width ≡ size scalar)
-        × (t.column.to.width ≡ size t.to)
-        × HasRoom t.column.from t.column.to (length t.column.rows) };
+    ghost Needs = { λ t scalar. IsNumber t.1 × (t.0.from.width ≡ size scalar)
+        × (t.0.to.width ≡ size t.1) × HasRoom t.0.from t.0.to (length t.0.rows) };
 
-    ghost Gives = { λ t scalar rows. AreRows (leaf_cast scalar t.to) t.column rows };
+    ghost Gives = { λ t scalar rows. AreRows (leaf_cast scalar t.1) t.0 rows };
 
     fn run<S: Number, P: Ordered>(self) -> RawBlock {
-        let CastingTo { column, to } = self;
-        let task = CastingFrom::<S, P> {
-            column,
-            numbers: PhantomData,
-        };
-        on_number(&to, task)
+        let CastingTo(column, to) = self;
+        on_number(&to, CastingFrom::<S, P>(column, PhantomData))
     }
 }
 
 impl<'a, S: Number, P: Ordered> NumberTask for CastingFrom<'a, S, P> {
     type Out = RawBlock;
 
-    ghost Needs = { λ t scalar. (t.column.from.width ≡ S.WIDTH) × (t.column.to.width ≡ size scalar)
-        × HasRoom t.column.from t.column.to (length t.column.rows) };
+    ghost Needs = { λ t scalar. (t.0.from.width ≡ S.WIDTH) × (t.0.to.width ≡ size scalar)
+        × HasRoom t.0.from t.0.to (length t.0.rows) };
 
-    ghost Gives = { λ t scalar rows. AreRows (leaf_cast (S.scalar P.order) scalar) t.column rows };
+    ghost Gives = { λ t scalar rows. AreRows (leaf_cast (S.scalar P.order) scalar) t.0 rows };
 
     fn run<T: Number, Q: Ordered>(self) -> RawBlock {
-        let CastingFrom { column, numbers: _ } = self;
+        let CastingFrom(column, _) = self;
         column.cast_by(&CastingNumbers::<S, P, T, Q>(PhantomData))
     }
 }
@@ -184,13 +173,7 @@ impl<'a> Column<'a> {
                 let width = width.get();
                 self.cast_by(&Cutting { width })
             }
-            _ => {
-                let task = CastingTo {
-                    column: self,
-                    to: *to,
-                };
-                on_number(scalar, task)
-            }
+            _ => on_number(scalar, CastingTo(self, *to)),
         }
     }
 }

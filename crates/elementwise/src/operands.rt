@@ -161,37 +161,25 @@ pub(crate) fn made(
     made_of_many(alloc, pairing, operands)
 }
 
-/// Two layouts of one shape, with length 1 on each axis along which the items of both repeat.
-#[derive(Drop)]
-pub(crate) struct Shrunk {
-    pub(crate) shape: Shape,
-    pub(crate) first: Layout,
-    pub(crate) second: Layout,
-}
-
 /// Two layouts that stretch to a shape, with length 1 on each axis of it along which the items of
-/// both repeat.
+/// both repeat. They have one shape.
 pub(crate) fn without_repeats(
     alloc: Global,
     left: &Layout,
     right: &Layout,
     shape: &Shape,
-) -> Result<Shrunk, AllocError>
+) -> Result<Layouts, AllocError>
     requires stretches { IsTrue (can_stretch left.now.shape shape.now) }
     requires also { IsTrue (can_stretch right.now.shape shape.now) }
-    ensures first { IfOk result (λ s. IsShrunk s.first left.now s.shape shape.now) }
-    ensures second { IfOk result (λ s. IsShrunk s.second right.now s.shape shape.now) }
+    ensures first { IfOk result (λ s. IsShrunk s.first left.now s.first.shape shape.now) }
+    ensures second { IfOk result (λ s. IsShrunk s.second right.now s.first.shape shape.now) }
 {
     let wide = stretched_to(alloc, left, shape)?;
     let other = stretched_to(alloc, right, shape)?;
     let shape = shrunk_shape(alloc, &wide, &other)?;
     let first = shrink(alloc, &wide, &shape)?;
     let second = shrink(alloc, &other, &shape)?;
-    Ok(Shrunk {
-        shape,
-        first,
-        second,
-    })
+    Ok(Layouts { first, second })
 }
 
 /// The bools of an array that is stretched to a shape, in a block of their own.

@@ -7,7 +7,7 @@ use crate::bits;
 use crate::cast_kernels::cast;
 use crate::comparison_kernels::compare;
 use crate::divisions::Divisions;
-use crate::kernels::{Kernel, push_made};
+use crate::kernels::{Kernel, append};
 use crate::pairing::Work;
 use crate::row_pairs::Operands;
 use elem_descr::{BinOp, Scalar, UnOp};
@@ -56,7 +56,10 @@ impl<const LEAVES: bool, N: Number> Kernel<N, N, N> for Dividing<LEAVES> {
 
     #[inline(always)]
     fn make(left: N, right: N) -> N {
-        N::of_bits(bits::division(LEAVES, N::SIGNED, left.bits(), right.bits()))
+        let first = left.bits();
+        let second = right.bits();
+        let quotient = bits::quotient(N::SIGNED, first, second);
+        N::of_bits(bits::division(LEAVES, first, second, quotient))
     }
 }
 
@@ -159,27 +162,27 @@ impl<'a, 'b> NumberTask for Working<'a, 'b> {
         } = self;
         match work {
             Work::Combine(op) => match op {
-                BinOp::Add => push_made::<Adding, N, N, N, O, LowFirst>(block, operands),
-                BinOp::Subtract => push_made::<Subtracting, N, N, N, O, LowFirst>(block, operands),
-                BinOp::Multiply => push_made::<Multiplying, N, N, N, O, LowFirst>(block, operands),
+                BinOp::Add => append::<Adding, N, N, N, O, LowFirst>(block, operands),
+                BinOp::Subtract => append::<Subtracting, N, N, N, O, LowFirst>(block, operands),
+                BinOp::Multiply => append::<Multiplying, N, N, N, O, LowFirst>(block, operands),
                 BinOp::FloorDivide => operands.push_all(
                     &Divisions::<false, N, O>(PhantomData),
                     block,
                 ),
                 BinOp::Modulo => operands.push_all(&Divisions::<true, N, O>(PhantomData), block),
-                BinOp::And => push_made::<KeepingBoth, N, N, N, O, LowFirst>(block, operands),
-                BinOp::Or => push_made::<KeepingEither, N, N, N, O, LowFirst>(block, operands),
-                BinOp::Xor => push_made::<KeepingOne, N, N, N, O, LowFirst>(block, operands),
-                BinOp::ShiftLeft => push_made::<MovingUp, N, N, N, O, LowFirst>(block, operands),
-                BinOp::ShiftRight => push_made::<MovingDown, N, N, N, O, LowFirst>(block, operands),
+                BinOp::And => append::<KeepingBoth, N, N, N, O, LowFirst>(block, operands),
+                BinOp::Or => append::<KeepingEither, N, N, N, O, LowFirst>(block, operands),
+                BinOp::Xor => append::<KeepingOne, N, N, N, O, LowFirst>(block, operands),
+                BinOp::ShiftLeft => append::<MovingUp, N, N, N, O, LowFirst>(block, operands),
+                BinOp::ShiftRight => append::<MovingDown, N, N, N, O, LowFirst>(block, operands),
                 BinOp::Divide => unreachable!(),
             },
             Work::Change(op) => match op {
-                UnOp::Negate => push_made::<TakingFrom<0>, N, N, N, O, LowFirst>(block, operands),
-                UnOp::Invert if bools => push_made::<TakingFrom<1>, N, N, N, O, LowFirst>(
+                UnOp::Negate => append::<TakingFrom<0>, N, N, N, O, LowFirst>(block, operands),
+                UnOp::Invert if bools => append::<TakingFrom<1>, N, N, N, O, LowFirst>(
                     block, operands,
                 ),
-                UnOp::Invert => push_made::<TakingFrom<{ u64::MAX }>, N, N, N, O, LowFirst>(
+                UnOp::Invert => append::<TakingFrom<{ u64::MAX }>, N, N, N, O, LowFirst>(
                     block, operands,
                 ),
             },

@@ -1,5 +1,5 @@
 //! The types of results, as NumPy 2 promotes the types of operands.
-ghost use Rattle.std.specs.Prelude.{◌≡◌, ◌≤◌, not, ◌&&◌, ◌||◌};
+ghost use Rattle.std.specs.Prelude.{◌≡◌, ◌≤◌, ◌&&◌, ◌||◌};
 ghost use Rattle.elementwise.specs.Clauses.{Little, Eight, Int, Answers, is_bool, is_text, is_signed, little, rank_of_kind, same_kind, integer_type, mixed_type, common_type, promote, compared_type, literal_type, promote_one, serves_bools, scalar_of};
 
 use crate::operations::serves_bools;

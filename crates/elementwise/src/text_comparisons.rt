@@ -2,7 +2,7 @@
 //! words.
 ghost use Rattle.std.proofs.Common.{arith};
 ghost use Rattle.std.specs.Prelude.{length, ℕ, ◌*◌, ◌++◌, ◌+◌, ◌^◌, ◌≡◌, ◌≤◌};
-ghost use Rattle.elementwise.specs.Clauses.{BigOrder, item_size, made_of_all, pairs_of, text_pair, text_said, AreInOrder, IsWord, IsWordLen};
+ghost use Rattle.elementwise.specs.Clauses.{item_size, made_of_all, pairs_of, text_pair, text_said, AreInOrder, IsWordLen};
 
 use crate::byte_string_pairs::ComparingTexts;
 use crate::byte_strings::{shared_words, word_at};
@@ -118,23 +118,6 @@ fn push_decided<D: Deciding>(
     }
 }
 
-/// Appends the result of a comparison for each pair of byte strings that have the size of a number.
-fn push_numbers<N: Number>(
-    comparison: Comparison,
-    block: BlockBuilder,
-    operands: Operands<'_, '_>,
-) -> BlockBuilder
-    requires even { item_size operands.left.descr.now ≡ item_size operands.right.descr.now }
-    requires fits { IsWord (N.scalar BigOrder) (item_size operands.left.descr.now) }
-    requires room { pairs_of operands ≤ block.1 }
-    ensures bytes { result.0 ≡ block.0 ++ made_of_all (text_pair comparison) operands.entry }
-    ensures left { pairs_of operands.entry + result.1 ≡ block.1 }
-{
-    note_slice(operands.left.block.bytes());
-    note_slice(operands.right.block.bytes());
-    compare::<N, N, HighFirst>(comparison, block, operands)
-}
-
 /// Appends the result of a comparison for each pair of byte strings.
 pub(crate) fn push_texts(
     texts: &ComparingTexts,
@@ -153,13 +136,15 @@ pub(crate) fn push_texts(
     if texts.other_width.get() != width {
         return operands.push_all(texts, block);
     }
+    note_slice(operands.left.block.bytes());
+    note_slice(operands.right.block.bytes());
     match width {
-        1 => push_numbers::<u8>(comparison, block, operands),
-        2 => push_numbers::<u16>(comparison, block, operands),
+        1 => compare::<u8, u8, HighFirst>(comparison, block, operands),
+        2 => compare::<u16, u16, HighFirst>(comparison, block, operands),
         3 => push_decided::<Ends<2>>(comparison, block, operands),
-        4 => push_numbers::<u32>(comparison, block, operands),
+        4 => compare::<u32, u32, HighFirst>(comparison, block, operands),
         5..=7 => push_decided::<Ends<4>>(comparison, block, operands),
-        8 => push_numbers::<u64>(comparison, block, operands),
+        8 => compare::<u64, u64, HighFirst>(comparison, block, operands),
         9..=16 => push_decided::<Ends<8>>(comparison, block, operands),
         _ => push_decided::<Longer>(comparison, block, operands),
     }

@@ -24,5 +24,5 @@ returns c =
     let x = c.args.operand in
     let s = c.in_ok-small in
     made-as (ScalarDescr BoolScalar) x.layout.now.shape _ _ c.spread.result
-    (each_spread (λ item. compared_item c.args.comparison item (text c.args.other.now ∷ [])) (ScalarDescr BoolScalar) x.descr.now x.block.now x.layout.now s.small.first s.small.shape c.in_ok-made.made s.ensures.first c.in_ok-made.ensures)
+    (each_spread (λ item. compared_item c.args.comparison item (text c.args.other.now ∷ [])) (ScalarDescr BoolScalar) x.descr.now x.block.now x.layout.now s.small.first s.small.first.shape c.in_ok-made.made s.ensures.first c.in_ok-made.ensures)
     c.spread.ensures

@@ -9,16 +9,16 @@ push-requires g c =
     let most : suc c.loop-k.k * g.N.Number.WIDTH ≤ pair_count c.args.pairs * g.N.Number.WIDTH = mul-le-mul_right g.N.Number.WIDTH c.loop-k-test.true in
     omega (arith, most, suc-mul c.loop-k.k g.N.Number.WIDTH, c.requires.room, c.loop-k.invariant.left)
 
-pub division-bits-requires-clause-left : goal.division-bits-requires-clause-left
-division-bits-requires-clause-left g c =
+pub quotient-requires-clause-left : goal.quotient-requires-clause-left
+quotient-requires-clause-left g c =
     let scalar = g.N.Number.scalar g.O.Ordered.order in
-    subst (λ z. unsigned_abs z < 256) (sym c.number-left.ensures ∙ c.bits.ensures.exact ∙ λ i. integer (c.requires.unsigned i) 8 c.bits.result)
+    subst (λ z. unsigned_abs z < 256) (sym c.number.ensures ∙ c.bits-left.ensures.exact ∙ λ i. integer (c.requires.unsigned i) 8 c.bits-left.result)
     (side-small scalar c.args.pairs.left c.loop-k.k 1 c.note_slice.ensures (g.met.N.Number.is_number g.O.Ordered.order) (g.met.N.Number.has_width g.O.Ordered.order ∙ c.requires.byte))
 
-pub division-bits-requires-clause-right : goal.division-bits-requires-clause-right
-division-bits-requires-clause-right g c =
+pub quotient-requires-clause-right : goal.quotient-requires-clause-right
+quotient-requires-clause-right g c =
     let scalar = g.N.Number.scalar g.O.Ordered.order in
-    subst (λ z. unsigned_abs z < 256) (sym c.number-right.ensures ∙ c.bits-in-loop-k.ensures.exact ∙ λ i. integer (c.requires.unsigned i) 8 c.bits-in-loop-k.result)
+    subst (λ z. unsigned_abs z < 256) (sym c.number-in-loop-k.ensures ∙ c.bits-right.ensures.exact ∙ λ i. integer (c.requires.unsigned i) 8 c.bits-right.result)
     (side-small scalar c.args.pairs.right c.loop-k.k 1 c.note_slice-2.ensures (g.met.N.Number.is_number g.O.Ordered.order) (g.met.N.Number.has_width g.O.Ordered.order ∙ c.requires.byte))
 
 pub loop-k-preserved : goal.loop-k-preserved
@@ -29,12 +29,12 @@ loop-k-preserved g c =
     let op = division_op (not (g.row.LEAVES == 0)) in
     let made = made_of (number_pair scalar scalar to (binary op to)) c.args.pairs in
     let unsigned = c.requires.unsigned in
-    let left : integer false 8 c.bits.result ≡ g.N.Number.value c.number-left.result = (λ i. integer (sym unsigned i) 8 c.bits.result) ∙ sym c.bits.ensures.exact in
-    let right : integer false 8 c.bits-in-loop-k.result ≡ g.N.Number.value c.number-right.result = (λ i. integer (sym unsigned i) 8 c.bits-in-loop-k.result) ∙ sym c.bits-in-loop-k.ensures.exact in
-    let value = applied op to _ _ _ c.division-bits.result (g.met.N.Number.is_number Little) (g.met.N.Number.is_truth Little c.number-left.result) (g.met.N.Number.is_truth Little c.number-right.result)
+    let left : integer false 8 c.bits-left.result ≡ g.N.Number.value c.number.result = (λ i. integer (sym unsigned i) 8 c.bits-left.result) ∙ sym c.bits-left.ensures.exact in
+    let right : integer false 8 c.bits-right.result ≡ g.N.Number.value c.number-in-loop-k.result = (λ i. integer (sym unsigned i) 8 c.bits-right.result) ∙ sym c.bits-right.ensures.exact in
+    let value = applied op to _ _ _ c.division-bits.result (g.met.N.Number.is_number Little) (g.met.N.Number.is_truth Little c.number.result) (g.met.N.Number.is_truth Little c.number-in-loop-k.result)
     (c.of_bits.ensures Little (pos c.division-bits.result) (are_bits c.division-bits.result c.division-bits.type_inv))
-    (c.division-bits.ensures to ∙ λ i. low_bits 8 (exact op to (left i) (right i))) in
-    let is = ap (λ z. encode to (number z)) (value ∙ λ i. binary op to (c.number-left.ensures i) (c.number-right.ensures i)) in
+    (c.division-bits.ensures false to c.quotient.ensures ∙ λ i. low_bits 8 (exact op to (left i) (right i))) in
+    let is = ap (λ z. encode to (number z)) (value ∙ λ i. binary op to (c.number.ensures i) (c.number-in-loop-k.ensures i)) in
     let next : suc k ≡ k + 1 = omega arith in
     record {
       bytes = c.push.ensures.bytes ∙ (λ i. c.loop-k.invariant.bytes i ++ is i) ∙ append_assoc c.args.block.0 (joined made k) (made k) ∙ ap (λ m. c.args.block.0 ++ joined made m) next;

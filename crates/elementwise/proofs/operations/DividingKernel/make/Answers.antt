@@ -9,6 +9,6 @@ returns g c =
     let scalar = g.N.Number.scalar Little in
     applied op scalar _ _ _ c.division.result (g.met.N.Number.is_number Little) (g.met.N.Number.is_truth Little c.args.left) (g.met.N.Number.is_truth Little c.args.right)
     (c.of_bits.ensures Little (pos c.division.result) (are_bits c.division.result c.division.type_inv))
-    (c.division.ensures scalar
-    ∙ (λ i. low_bits 8 (exact op scalar (integer (c.SIGNED.ensures i) 8 c.bits.result) (integer (c.SIGNED.ensures i) 8 c.bits-2.result)))
-    ∙ λ i. low_bits 8 (exact op scalar (sym c.bits.ensures.exact i) (sym c.bits-2.ensures.exact i)))
+    (c.division.ensures c.SIGNED.result scalar c.quotient-quotient.ensures
+    ∙ (λ i. low_bits 8 (exact op scalar (integer (c.SIGNED.ensures i) 8 c.bits-first.result) (integer (c.SIGNED.ensures i) 8 c.bits-second.result)))
+    ∙ λ i. low_bits 8 (exact op scalar (sym c.bits-first.ensures.exact i) (sym c.bits-second.ensures.exact i)))
