@@ -2,15 +2,14 @@
 pub use Rattle.disk.specs.Cached.{MayStand, MayStay, cached_history, found, is_synced}
 pub use Rattle.disk.specs.CachedLaws.{found_may_stand, newest}
 pub use Rattle.disk.specs.Calls.{HasNames, Replaces, SameButBoth}
-pub use Rattle.disk.specs.ChangeLaws.{bound_else, bound_here, get-bound, latest}
-pub use Rattle.disk.specs.Changes.{after, bound, bytes_of_change, history_of}
+pub use Rattle.disk.specs.ChangeLaws.{bound_else, bound_here, get-bound}
+pub use Rattle.disk.specs.Changes.{bound, bytes_of_change}
 pub use Rattle.disk.specs.CrashLaws.{follows, then_but, unmoved, weaker}
 pub use Rattle.disk.specs.Crashes.{Leaves}
 pub use Rattle.disk.specs.Files.{Files, Same, SameBut}
 pub use Rattle.disk.specs.Words.{Global, bytes_eq, bytes_eq-Decides, cases_lt, false_from_ne_true, get, get-empty, nat_cmp, slice_cmp}
 pub use Rattle.disk.specs.declared.cached.Event.{Event}
 pub use Rattle.disk.specs.declared.cached.Event.TheVariants.{Changed, FileSynced, NamesSynced}
-pub use Rattle.disk.specs.declared.memory.Change.{Change}
 pub use Rattle.std.proofs.lemmas.Bool.Decides.{when_false, when_true}
 pub use Rattle.std.proofs.lemmas.Grind.{common_steps}
 pub use Rattle.std.proofs.lemmas.List.{drop_all, take_at}

@@ -1,10 +1,9 @@
--- The files after changes in memory.
-use Rattle.std.specs.Prelude.{◌≡◌, ◌-◌, ℕ, List, length, drop, Option, Some, None}
-use Rattle.std.proofs.Common.{cond, refl, sym, ap, ◌∙◌, arith}
+-- The files after a change in memory.
+use Rattle.std.specs.Prelude.{◌≡◌, ℕ, List, Option, Some, None}
+use Rattle.std.proofs.Common.{cond, refl, sym, ap, ◌∙◌}
 use Rattle.disk.specs.Words.{bytes_eq, texts_ties, nat_list_cmp_total, get, get-insert, get-remove, false_from_ne_true, bytes_eq-Decides}
-use Rattle.disk.specs.declared.memory.Change.{Change}
 use Rattle.disk.specs.Files.{Files, SameBut}
-use Rattle.disk.specs.Changes.{after, bound}
+use Rattle.disk.specs.Changes.{bound}
 
 pub get-bound : (name : List ℕ) (bytes : Option (List ℕ)) (files : Files) (other : List ℕ) → get (bound name bytes files) other ≡ cond (bytes_eq other name) bytes (get files other)
 get-bound name (Some bytes) files other = get-insert nat_list_cmp_total files name bytes other ∙ ap (λ b. cond b (Some bytes) (get files other)) (sym (texts_ties other name))
@@ -17,7 +16,3 @@ bound_here name bytes files = get-bound name bytes files name ∙ ap (λ b. cond
 pub bound_else : (name : List ℕ) (bytes : Option (List ℕ)) (files : Files) → SameBut name files (bound name bytes files)
 bound_else name bytes files other far =
     get-bound name bytes files other ∙ ap (λ b. cond b bytes (get files other)) (false_from_ne_true _ (λ same. far ((bytes_eq-Decides other name).0 same)))
-
--- a crash may leave the files as they are
-pub latest : (changes : List Change) → after changes ≡ after (drop (length changes - length changes) changes)
-latest changes = ap (λ n. after (drop n changes)) (let none : 0 ≡ length changes - length changes = omega arith in none)

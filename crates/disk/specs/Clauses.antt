@@ -1,9 +1,8 @@
 -- What the contracts of this crate cite: its own definitions, and names from std and from the crates below.
 pub use Rattle.disk.specs.Cached.{MayStand, cached_history, found, is_synced}
 pub use Rattle.disk.specs.CachedLaws.{found_may_stay}
-pub use Rattle.disk.specs.Calls.{HasCause, HasRisen, Replaces, SameButBoth}
-pub use Rattle.disk.specs.ChangeLaws.{latest}
-pub use Rattle.disk.specs.Changes.{IsFound, after, bytes_of_change, history_of}
+pub use Rattle.disk.specs.Calls.{HasCause, HasRisen}
+pub use Rattle.disk.specs.Changes.{IsFound, bytes_of_change}
 pub use Rattle.disk.specs.Crashes.{Leaves, MayLeave}
 pub use Rattle.disk.specs.Files.{Files, Same, SameBut}
 pub use Rattle.disk.specs.Words.{empty, get}

@@ -1,26 +1,19 @@
 //! A disk in memory with a cache: a crash may lose what was not synced.
-ghost use Rattle.std.specs.Prelude.{◌≡◌, ◌≢◌, ◌↔◌, ◌∷◌, true, drop, IsTrue, IfOk, OnOk, OnErr, MatchOption};
-ghost use Rattle.disk.specs.Clauses.{empty, get, Failed, Files, Same, SameBut, MayLeave, Leaves, HasCause, SameButBoth, Replaces, bytes_of_change, IsFound, found, is_synced, MayStand, cached_history, found_may_stay};
+ghost use Rattle.std.specs.Prelude.{◌≡◌, ◌↔◌, ◌++◌, ◌<◌, ◌≤◌, [], true, drop, length, take, IsTrue, IfOk, OnOk, MatchOption};
+ghost use Rattle.disk.specs.Clauses.{empty, get, Failed, Files, Same, SameBut, MayLeave, Leaves, HasCause, bytes_of_change, IsFound, found, is_synced, MayStand, cached_history, found_may_stay};
 
 use crate::disk::{Disk, DiskFault};
-use crate::failing::Failing;
-use crate::memory::MemFile;
+use crate::failing::{Failing, failed};
 use std::alloc::{AllocError, Global};
 
 /// What a call has done to a disk with a cache.
 #[derive(Drop)]
 pub enum Event {
-    /// A name has these bytes now, or was removed. If they are whole, a crash leaves them or what
-    /// was there before, and otherwise anything.
-    Changed {
-        name: Vec<u8>,
-        bytes: Option<Vec<u8>>,
-        is_whole: bool,
-    },
-    /// The bytes of a file were synced.
-    FileSynced {
-        name: Vec<u8>,
-    },
+    /// A name has these bytes now, or was removed, and whether they are whole. If they are, a crash
+    /// leaves them or what was there before, and otherwise anything.
+    Changed(Vec<u8>, Option<Vec<u8>>, bool),
+    /// The bytes of the file with this name were synced.
+    FileSynced(Vec<u8>),
     /// The names were synced.
     NamesSynced,
     /// The disk was restarted. All that a read found then was on it.
@@ -46,11 +39,7 @@ fn latest<'a>(events: &'a [Event], name: &[u8]) -> Option<&'a Option<Vec<u8>>>
     let mut rest = events;
     while let [event, older @ ..] = rest {
         match event {
-            Event::Changed {
-                name: other,
-                bytes,
-                ..
-            } if name == other.as_slice() => return Some(bytes),
+            Event::Changed(other, bytes, _) if name == other.as_slice() => return Some(bytes),
             _ => {}
         }
         rest = older;
@@ -65,14 +54,10 @@ fn are_bytes_synced(events: &[Event], name: &[u8]) -> bool
     let mut rest = events;
     while let [event, older @ ..] = rest {
         match event {
-            Event::Changed {
-                name: other,
-                is_whole,
-                ..
-            } if name == other.as_slice() => return *is_whole,
-            Event::FileSynced { name: other } if name == other.as_slice() => return true,
+            Event::Changed(other, _, is_whole) if name == other.as_slice() => return *is_whole,
+            Event::FileSynced(other) if name == other.as_slice() => return true,
             Event::Restarted => return true,
-            Event::Changed { .. } | Event::FileSynced { .. } | Event::NamesSynced => {}
+            Event::Changed(..) | Event::FileSynced(_) | Event::NamesSynced => {}
         }
         rest = older;
     }
@@ -107,16 +92,15 @@ fn may_stand(events: &[Event], name: &[u8], left: &Option<Vec<u8>>) -> bool
     let mut rest = events;
     while let [event, older @ ..] = rest {
         match event {
-            Event::Changed {
-                name: other,
-                bytes,
-                is_whole,
-            } if name == other.as_slice() && (!*is_whole || is_same(left, bytes)) => return true,
+            Event::Changed(other, bytes, is_whole)
+                if name == other.as_slice() && (!*is_whole || is_same(left, bytes)) => {
+                return true;
+            }
             Event::NamesSynced if are_bytes_synced(older, name) => {
                 return is_found(older, name, left);
             }
             Event::Restarted => return is_found(older, name, left),
-            Event::Changed { .. } | Event::FileSynced { .. } | Event::NamesSynced => {}
+            Event::Changed(..) | Event::FileSynced(_) | Event::NamesSynced => {}
         }
         rest = older;
     }
@@ -137,53 +121,7 @@ fn change(
         (cached_history events.old.items) (cached_history events.new.items) }
 {
     let name = Vec::from_slice(alloc, name)?;
-    events.insert(
-        0,
-        Event::Changed {
-            name,
-            bytes,
-            is_whole,
-        },
-    )?;
-    Ok(())
-}
-
-/// Gives one name these bytes, whole or not, and removes the other name.
-fn shift(
-    alloc: Global,
-    events: &mut Vec<Event>,
-    from: &[u8],
-    to: &[u8],
-    bytes: Vec<u8>,
-    is_whole: bool,
-) -> Result<(), AllocError>
-    requires { to.now ≢ from.now }
-    ensures given { OnOk result (get (found events.new.items) to.now ≡ Some bytes.items) }
-    ensures synced { OnOk result (is_synced events.new.items to.now ≡ is_whole) }
-    ensures others { Replaces from.now to.now (Some bytes.items)
-        (found events.old.items) (found events.new.items) }
-    ensures whole { is_whole ≡ true →
-        Leaves (Replaces from.now to.now (Some bytes.items))
-        (cached_history events.old.items) (cached_history events.new.items) }
-    ensures crash { Leaves (SameButBoth from.now to.now)
-        (cached_history events.old.items) (cached_history events.new.items) }
-    ensures err { OnErr result (events.new.items ≡ events.old.items) }
-{
-    let to = Vec::from_slice(alloc, to)?;
-    let from = Vec::from_slice(alloc, from)?;
-    let arrived = Event::Changed {
-        name: to,
-        bytes: Some(bytes),
-        is_whole,
-    };
-    let gone = Event::Changed {
-        name: from,
-        bytes: None,
-        is_whole: true,
-    };
-    events.reserve(2)?;
-    events.insert(0, arrived)?;
-    events.insert(0, gone)?;
+    events.insert(0, Event::Changed(name, bytes, is_whole))?;
     Ok(())
 }
 
@@ -286,7 +224,7 @@ impl Disk for CachedMemDisk {
 
     fn open(&mut self, name: &[u8]) -> Result<(MemFile, u64), DiskFault> {
         let Some(bytes) = self.look(name)? else {
-            return Err(self.failing.failed());
+            return Err(failed(&mut self.failing.failures));
         };
         let name = Vec::from_slice(self.alloc, name)?;
         let len = bytes.len() as u64;
@@ -300,7 +238,11 @@ impl Disk for CachedMemDisk {
 
     fn create(&mut self, name: &[u8], _place: &[u8]) -> Result<MemFile, DiskFault> {
         self.failing.count_call()?;
-        let file = MemFile::new(self.alloc, name)?;
+        let file = MemFile {
+            name: Vec::from_slice(self.alloc, name)?,
+            bytes: Vec::new(self.alloc),
+            at: 0,
+        };
         let bytes = Vec::new(self.alloc);
         change(self.alloc, &mut self.events, name, Some(bytes), false)?;
         Ok(file)
@@ -308,7 +250,7 @@ impl Disk for CachedMemDisk {
 
     fn append(&mut self, file: &mut MemFile, bytes: &[u8]) -> Result<(), DiskFault> {
         let Some(mut all) = self.look(&file.name)? else {
-            return Err(self.failing.failed());
+            return Err(failed(&mut self.failing.failures));
         };
         all.extend_from_slice(bytes)?;
         Ok(change(self.alloc, &mut self.events, &file.name, Some(all), false)?)
@@ -317,16 +259,22 @@ impl Disk for CachedMemDisk {
     fn sync(&mut self, file: &MemFile) -> Result<(), DiskFault> {
         self.failing.count_call()?;
         let name = Vec::from_slice(self.alloc, &file.name)?;
-        self.events.insert(0, Event::FileSynced { name })?;
+        self.events.insert(0, Event::FileSynced(name))?;
         Ok(())
     }
 
     fn rename(&mut self, from: &[u8], to: &[u8]) -> Result<(), DiskFault> {
         let Some(bytes) = self.look(from)? else {
-            return Err(self.failing.failed());
+            return Err(failed(&mut self.failing.failures));
         };
         let is_whole = are_bytes_synced(&self.events, from);
-        Ok(shift(self.alloc, &mut self.events, from, to, bytes, is_whole)?)
+        let to = Vec::from_slice(self.alloc, to)?;
+        let from = Vec::from_slice(self.alloc, from)?;
+        self.events.reserve(2)?;
+        self.events
+            .insert(0, Event::Changed(to, Some(bytes), is_whole))?;
+        self.events.insert(0, Event::Changed(from, None, true))?;
+        Ok(())
     }
 
     fn remove(&mut self, name: &[u8]) -> Result<(), DiskFault> {
@@ -340,8 +288,35 @@ impl Disk for CachedMemDisk {
     fn sync_names(&mut self) -> Result<(), DiskFault> {
         self.failing.count_call()?;
         if self.events.insert(0, Event::NamesSynced).is_err() {
-            return Err(self.failing.failed());
+            return Err(failed(&mut self.failing.failures));
         }
         Ok(())
+    }
+}
+
+/// A file in memory that is open.
+#[derive(Drop)]
+pub struct MemFile {
+    name: Vec<u8>,
+    bytes: Vec<u8>,
+    at: usize,
+}
+
+impl MemFile {
+    /// Moves the next bytes to a piece, as many as fit.
+    fn take(&mut self, piece: &mut [u8]) -> usize
+        ensures count { result ≤ length piece.old }
+        ensures taken { drop self.old.at self.old.bytes.items
+            ≡ take result piece.new ++ drop self.new.at self.new.bytes.items }
+        ensures end { result ≡ 0 →
+            0 < length piece.old → drop self.old.at self.old.bytes.items ≡ [] }
+        ensures name { self.new.name ≡ self.old.name }
+    {
+        let at = self.at.min(self.bytes.len());
+        let rest = &self.bytes[at..];
+        let count = piece.len().min(rest.len());
+        piece[..count].copy_from_slice(&rest[..count]);
+        self.at = at + count;
+        count
     }
 }

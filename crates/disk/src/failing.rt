@@ -9,7 +9,17 @@ use crate::disk::DiskFault;
 pub(crate) struct Failing {
     calls_left: Option<usize>,
     crashes: bool,
-    failures: u64,
+    pub(crate) failures: u64,
+}
+
+/// Counts a failure.
+pub(crate) fn failed(failures: &mut u64) -> DiskFault
+    ensures fault { result ≡ Failed }
+    ensures counted { HasRisen failures.old failures.new }
+    ensures kept { failures.old ≤ failures.new }
+{
+    *failures = failures.saturating_add(1);
+    DiskFault::Failed
 }
 
 impl Failing {
@@ -40,16 +50,6 @@ impl Failing {
         self.calls_left = None;
     }
 
-    /// Counts a failure.
-    pub(crate) fn failed(&mut self) -> DiskFault
-        ensures fault { result ≡ Failed }
-        ensures counted { HasRisen self.old.failures self.new.failures }
-        ensures kept { self.old.failures ≤ self.new.failures }
-    {
-        self.failures = self.failures.saturating_add(1);
-        DiskFault::Failed
-    }
-
     /// Counts a call, and fails if it is the one to fail.
     pub(crate) fn count_call(&mut self) -> Result<(), DiskFault>
         ensures cause { HasCause Failed self.old.failures self.new.failures result }
@@ -61,7 +61,7 @@ impl Failing {
                 if !self.crashes {
                     self.calls_left = None;
                 }
-                Err(self.failed())
+                Err(failed(&mut self.failures))
             }
             Some(calls) => {
                 self.calls_left = Some(calls - 1);

@@ -1,8 +1,9 @@
 //! A folder of the operating system.
-ghost use Rattle.std.specs.Prelude.{◌≡◌, ◌≤◌, [], false, IfOk, OnErr};
-ghost use Rattle.disk.specs.Clauses.{empty, Failed, HasCause, HasRisen};
+ghost use Rattle.std.specs.Prelude.{◌≡◌, [], false, IfOk, OnErr};
+ghost use Rattle.disk.specs.Clauses.{empty, Failed, HasCause};
 
 use crate::disk::{Disk, DiskFault};
+use crate::failing::failed;
 use crate::host_calls::{
     create_file, is_there, open_file, read_some, remove_file, rename_file, sync_file, sync_folder,
 };
@@ -21,30 +22,14 @@ use std::rt::Files;
 /// folder and its file system can sync a folder. If the file system cannot, `sync_names` returns
 /// `Ok` although the names may not last: a crash soon afterwards may bring the old file back.
 ///
-/// It is proved that each failure is counted, and `host_errors` proves which errors of the system
-/// are not failures.
+/// It is proved that each failure is counted, and in `host_calls` which errors of the system are not
+/// failures.
 #[derive(Drop)]
 pub struct HostDisk<'a, R: Files<File = File>> {
     rt: &'a R,
     alloc: Global,
     dir: String,
     failures: u64,
-}
-
-/// The path of a name in a folder. A name that leads out of the folder has none. All memory of the
-/// path is allocated at once, so that the memory for the path by which a file was made is enough
-/// for the path by which it is renamed or removed.
-fn path_in(alloc: Global, dir: &str, name: &[u8]) -> Result<Option<PathBuf>, AllocError> {
-    let Ok(name) = str::from_utf8(name) else {
-        return Ok(None);
-    };
-    if name.is_empty() || name == "." || name == ".." || name.contains('/') {
-        return Ok(None);
-    }
-    let mut path = PathBuf::with_capacity(alloc, dir.len() + name.len() + 1)?;
-    path.push(dir)?;
-    path.push(name)?;
-    Ok(Some(path))
 }
 
 impl<'a, R: Files<File = File>> HostDisk<'a, R> {
@@ -62,16 +47,6 @@ impl<'a, R: Files<File = File>> HostDisk<'a, R> {
         })
     }
 
-    /// Counts a failure.
-    fn failed(&mut self) -> DiskFault
-        ensures fault { result ≡ Failed }
-        ensures counted { HasRisen self.old.failures self.new.failures }
-        ensures kept { self.old.failures ≤ self.new.failures }
-    {
-        self.failures = self.failures.saturating_add(1);
-        DiskFault::Failed
-    }
-
     /// The result of a call. A failure is counted.
     fn told<T: Drop>(&mut self, answer: io::Result<T>) -> Result<T, DiskFault>
         ensures cause { HasCause Failed self.old.failures self.new.failures result }
@@ -80,18 +55,26 @@ impl<'a, R: Files<File = File>> HostDisk<'a, R> {
     {
         match answer {
             Ok(value) => Ok(value),
-            Err(_) => Err(self.failed()),
+            Err(_) => Err(failed(&mut self.failures)),
         }
     }
 
-    /// The path of a name.
+    /// The path of a name. A name that leads out of the folder has none, which is a failure. All
+    /// memory of the path is allocated at once, so that the memory for the path by which a file was
+    /// made is enough for the path by which it is renamed or removed.
     fn path(&mut self, name: &[u8]) -> Result<PathBuf, DiskFault>
         ensures cause { HasCause Failed self.old.failures self.new.failures result }
     {
-        match path_in(self.alloc, self.dir.as_str(), name)? {
-            Some(path) => Ok(path),
-            None => Err(self.failed()),
+        let Ok(name) = str::from_utf8(name) else {
+            return Err(failed(&mut self.failures));
+        };
+        if name.is_empty() || name == "." || name == ".." || name.contains('/') {
+            return Err(failed(&mut self.failures));
         }
+        let mut path = PathBuf::with_capacity(self.alloc, self.dir.len() + name.len() + 1)?;
+        path.push(self.dir.as_str())?;
+        path.push(name)?;
+        Ok(path)
     }
 }
 
@@ -118,47 +101,39 @@ impl<'a, R: Files<File = File>> Disk for HostDisk<'a, R> {
 
     fn has_file(&mut self, name: &[u8]) -> Result<bool, DiskFault> {
         let path = self.path(name)?;
-        let answer = is_there(self.rt, path.as_path());
-        self.told(answer)
+        self.told(is_there(self.rt, path.as_path()))
     }
 
     fn open(&mut self, name: &[u8]) -> Result<(File, u64), DiskFault> {
         let path = self.path(name)?;
-        let answer = open_file(self.rt, path.as_path());
-        self.told(answer)
+        self.told(open_file(self.rt, path.as_path()))
     }
 
     fn read(&mut self, file: &mut File, piece: &mut [u8]) -> Result<usize, DiskFault> {
-        let answer = read_some(file, piece);
-        self.told(answer)
+        self.told(read_some(file, piece))
     }
 
     fn create(&mut self, name: &[u8], place: &[u8]) -> Result<File, DiskFault> {
         let (path, place) = (self.path(name)?, self.path(place)?);
-        let answer = create_file(self.rt, path.as_path(), place.as_path());
-        self.told(answer)
+        self.told(create_file(self.rt, path.as_path(), place.as_path()))
     }
 
     fn append(&mut self, file: &mut File, bytes: &[u8]) -> Result<(), DiskFault> {
-        let answer = file.write_all(bytes);
-        self.told(answer)
+        self.told(file.write_all(bytes))
     }
 
     fn sync(&mut self, file: &File) -> Result<(), DiskFault> {
-        let answer = sync_file(file);
-        self.told(answer)
+        self.told(sync_file(file))
     }
 
     fn rename(&mut self, from: &[u8], to: &[u8]) -> Result<(), DiskFault> {
         let (from, to) = (self.path(from)?, self.path(to)?);
-        let answer = rename_file(self.rt, from.as_path(), to.as_path());
-        self.told(answer)
+        self.told(rename_file(self.rt, from.as_path(), to.as_path()))
     }
 
     fn remove(&mut self, name: &[u8]) -> Result<(), DiskFault> {
         let path = self.path(name)?;
-        let answer = remove_file(self.rt, path.as_path());
-        self.told(answer)
+        self.told(remove_file(self.rt, path.as_path()))
     }
 
     fn sync_names(&mut self) -> Result<(), DiskFault> {

@@ -83,7 +83,8 @@ pub(crate) fn read_some<F: Read>(file: &mut F, piece: &mut [u8]) -> io::Result<u
 
 /// Removes what is at a path: a link itself, and not what it leads to.
 pub(crate) fn remove_file<R: Files>(rt: &R, path: Path) -> io::Result<()> {
-    gone(uninterrupted(|| fs::remove_file(rt, path)))
+    found(uninterrupted(|| fs::remove_file(rt, path)))?;
+    Ok(())
 }
 
 pub(crate) fn rename_file<R: Files>(rt: &R, from: Path, to: Path) -> io::Result<()> {
@@ -240,8 +241,8 @@ pub(crate) fn where_supported(answer: io::Result<()>) -> io::Result<()>
     }
 }
 
-/// What a look at a path found, or `None` if nothing is there (`ENOENT`).
-pub(crate) fn found(answer: io::Result<Metadata>) -> io::Result<Option<Metadata>>
+/// What a call on a path returns, or `None` if nothing is there (`ENOENT`).
+pub(crate) fn found<T: Drop>(answer: io::Result<T>) -> io::Result<Option<T>>
     ensures none { result ≡ Ok None →
         IsErrAnd answer (λ error. error_kind error ≡ ErrorKind.NotFound) }
     ensures failed { IfErr answer
@@ -251,17 +252,5 @@ pub(crate) fn found(answer: io::Result<Metadata>) -> io::Result<Option<Metadata>
         Ok(found) => Ok(Some(found)),
         Err(error) if error.kind() == ErrorKind::NotFound => Ok(None),
         Err(error) => Err(error),
-    }
-}
-
-/// Ignores an error that says that what was to be removed is not there (`ENOENT`).
-pub(crate) fn gone(answer: io::Result<()>) -> io::Result<()>
-    ensures passed { OnOk result (IfErr answer (λ error. error_kind error ≡ ErrorKind.NotFound)) }
-    ensures failed { IfErr answer
-        (λ error. error_kind error ≢ ErrorKind.NotFound → result ≡ Err error) }
-{
-    match answer {
-        Err(error) if error.kind() == ErrorKind::NotFound => Ok(()),
-        answer => answer,
     }
 }

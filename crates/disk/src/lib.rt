@@ -6,9 +6,7 @@ mod disk;
 mod failing;
 mod host;
 mod host_calls;
-mod memory;
 
-pub use cached::CachedMemDisk;
+pub use cached::{CachedMemDisk, MemFile};
 pub use disk::{Disk, DiskFault};
 pub use host::HostDisk;
-pub use memory::{MemDisk, MemFile};

@@ -1,23 +1,27 @@
 //! Folders on a disk in memory, of which one call fails, or all from one on.
-use disk::{Disk, MemDisk};
+use disk::{CachedMemDisk, Disk};
 use npy_files::{FolderStore, HeaderCutter, NpyStore};
-use std::alloc::Global;
+use std::alloc::{AllocError, Global};
 use std::test::Fail;
 
 /// A folder on a disk in memory.
-type MemFolder = FolderStore<MemDisk, HeaderCutter>;
+type MemFolder = FolderStore<CachedMemDisk, HeaderCutter>;
 
 /// How many calls of the disk three saves and two loads make: six for a save and four for a load.
 const CALLS: usize = 26;
 
-fn folder_on(disk: MemDisk) -> MemFolder {
+fn folder_on(disk: CachedMemDisk) -> MemFolder {
     FolderStore::new(disk, HeaderCutter, 100)
 }
 
 /// Three saves and two loads over a disk of which the call with this number fails, or all from that one
 /// on: the disk that is left, and how many of the five were refused.
-fn saves_and_loads(alloc: Global, call: usize, crashes: bool) -> (MemDisk, usize) {
-    let mut disk = MemDisk::new(alloc);
+fn saves_and_loads(
+    alloc: Global,
+    call: usize,
+    crashes: bool,
+) -> Result<(CachedMemDisk, usize), AllocError> {
+    let mut disk = CachedMemDisk::new(alloc);
     disk.fail_at(call, crashes);
     let mut store = folder_on(disk);
     let accepted = [
@@ -29,12 +33,12 @@ fn saves_and_loads(alloc: Global, call: usize, crashes: bool) -> (MemDisk, usize
     ];
     let refused = accepted.iter().filter(|is_ok| !**is_ok).count();
     let mut disk = store.into_disk();
-    disk.restart();
-    (disk, refused)
+    disk.restart()?;
+    Ok((disk, refused))
 }
 
 /// Whether a hidden file is left.
-fn has_hidden(disk: &mut MemDisk) -> Result<bool, Fail> {
+fn has_hidden(disk: &mut CachedMemDisk) -> Result<bool, Fail> {
     Ok(disk.has_file(b".a.part")? || disk.has_file(b".b.part")?)
 }
 
@@ -56,7 +60,7 @@ fn contents(alloc: Global, folder: &mut MemFolder, name: &[u8]) -> Result<&'stat
 #[test]
 fn each_call_fails(rt: HostRuntime) -> Result<(), Fail> {
     for call in 0..CALLS + 2 {
-        let (mut disk, refused) = saves_and_loads(rt.alloc(), call, false);
+        let (mut disk, refused) = saves_and_loads(rt.alloc(), call, false)?;
         let is_hidden = has_hidden(&mut disk)?;
         let mut folder = folder_on(disk);
         let a = contents(rt.alloc(), &mut folder, b"a")?;
@@ -74,7 +78,7 @@ fn each_call_fails(rt: HostRuntime) -> Result<(), Fail> {
 #[test]
 fn a_crash_at_each_call(rt: HostRuntime) -> Result<(), Fail> {
     for call in 0..CALLS {
-        let (disk, _) = saves_and_loads(rt.alloc(), call, true);
+        let (disk, _) = saves_and_loads(rt.alloc(), call, true)?;
         let mut folder = folder_on(disk);
         let old = contents(rt.alloc(), &mut folder, b"a")?;
         folder.write(rt.alloc(), b"a", b"four")?;

@@ -5,5 +5,5 @@ use Rattle.disk.proofs.cached.CachedMemDiskDisk.create.Goals as goal
 pub returns-in_err-count_call-clause-crash : goal.returns-in_err-count_call-clause-crash
 returns-in_err-count_call-clause-crash c = λ honest. still_but c.args.name.now _ _ refl
 
-pub returns-in_err-file-clause-crash : goal.returns-in_err-file-clause-crash
-returns-in_err-file-clause-crash c = λ honest. still_but c.args.name.now _ _ refl
+pub returns-in_err-from_slice-clause-crash : goal.returns-in_err-from_slice-clause-crash
+returns-in_err-from_slice-clause-crash c = λ honest. still_but c.args.name.now _ _ refl

@@ -1,9 +1,0 @@
-use Rattle.std.proofs.Common.{refl}
-use Rattle.disk.proofs.Changes.{still_but}
-use Rattle.disk.proofs.memory.MemDiskDisk.create.Goals as goal
-
-pub returns-in_err-count_call-clause-crash : goal.returns-in_err-count_call-clause-crash
-returns-in_err-count_call-clause-crash c = λ honest. still_but c.args.name.now _ _ refl
-
-pub returns-in_err-file-clause-crash : goal.returns-in_err-file-clause-crash
-returns-in_err-file-clause-crash c = λ honest. still_but c.args.name.now _ _ refl
