@@ -1,6 +1,6 @@
 -- A file whose items are stored in their block as in the file.
-use Rattle.std.proofs.Common.{◌≡◌, ℕ, ◌+◌, ◌*◌, ◌<◌, ◌≤◌, Bool, true, List, ◌++◌, map, length, drop, All, IfOk, refl, sym, ap, subst, ◌∙◌, arith, ◌||◌}
-use Rattle.npy_format.proofs.Words.{flat_map, take-append_seam, drop-append_seam, item_at, length-item_at, Descr, item_size, leaves_of, AreInOrder, encode_item, decode_item, blocks, item_from, count, first_address, is_c_contiguous, is_f_contiguous, LeafValue, AreBytes, bytes-drop, bytes-take, max_bytes, file_order, is_fortran, ordered, file_of, saved, LoadsAs, gathered, IsPlain, addresses_in_file}
+use Rattle.std.proofs.Common.{◌≡◌, ℕ, ◌+◌, ◌*◌, ◌≤◌, Bool, true, List, ◌++◌, map, length, drop, All, IfOk, refl, sym, ap, subst, ◌∙◌, arith, ◌||◌, inl, inr}
+use Rattle.npy_format.proofs.Words.{flat_map, take-append_seam, drop-append_seam, item_at, length-item_at, Descr, item_size, leaves_of, AreInOrder, encode_item, decode_item, blocks, item_from, count, first_address, is_c_contiguous, is_f_contiguous, LeafValue, AreBytes, bytes-drop, bytes-take, max_bytes, file_order, is_fortran, ordered, file_of, saved, LoadsAs, gathered, IsPlain, addresses_in_file, cases_lt}
 use Rattle.npy_format.proofs.WrittenItemLaws.{plain_again, all_again}
 use Rattle.npy_format.proofs.GatherLaws.{together}
 use Rattle.npy_format.proofs.WriterLaws.{file_written, saved-large, saved-small}
@@ -26,15 +26,10 @@ module _ (descr : Descr) (shape offsets bytes : List ℕ) (start len : ℕ) (lon
       ∙ file_written shape offsets bytes head file width long inside refl descr file (length head) n refl refl refl
       (ap (λ back. head ++ back) again ∙ sym (λ i. take-append_seam head items i ++ flat_map f (blocks width n (drop-append_seam head items i))))
 
--- Items with too many bytes have no file.
-pub large-loads : (descr : Descr) (shape addresses : List ℕ) (items : List (List LeafValue)) → max_bytes < count shape * item_size descr → IfOk (saved descr shape addresses items) (λ file. LoadsAs file descr shape items)
-large-loads descr shape addresses items large = rw (saved-large descr shape addresses items large) tt
-
--- The file of all others loads again.
-pub small-loads : (descr : Descr) (shape addresses bytes block : List ℕ) → bytes ≡ block → count shape * item_size descr ≤ max_bytes
-    → ((fortran : Bool) → LoadsAs (file_of descr fortran shape (map (item_from descr bytes) addresses)) descr shape (map (item_from descr bytes) addresses))
-    → IfOk (saved descr shape addresses (map (item_from descr block) addresses)) (λ file. LoadsAs file descr shape (map (item_from descr block) addresses))
-small-loads descr shape addresses bytes block same small loads =
-    let fortran = is_fortran (item_size descr) shape addresses in
-    rw (saved-small descr shape addresses (map (item_from descr block) addresses) small)
-    (subst (λ (b : List ℕ). LoadsAs (file_of descr fortran shape (map (item_from descr b) addresses)) descr shape (map (item_from descr b) addresses)) same (loads fortran))
+-- Items with too many bytes have no file, and the file of all others loads again.
+pub saved-loads : (descr : Descr) (shape addresses : List ℕ) (items : List (List LeafValue))
+    → (count shape * item_size descr ≤ max_bytes → (fortran : Bool) → LoadsAs (file_of descr fortran shape items) descr shape items) → IfOk (saved descr shape addresses items) (λ file. LoadsAs file descr shape items)
+saved-loads descr shape addresses items loads = elim (cases_lt max_bytes (count shape * item_size descr)) [
+  | inl large ↦ rw (saved-large descr shape addresses items large) tt
+  | inr small ↦ rw (saved-small descr shape addresses items small) (loads small (is_fortran (item_size descr) shape addresses))
+]

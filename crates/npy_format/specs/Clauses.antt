@@ -4,14 +4,14 @@ pub use Rattle.npy_format.specs.Headers.{HeaderAnyTurns, dictionary_of, header, 
 pub use Rattle.npy_format.specs.Listed.{Literal, Pair}
 pub use Rattle.npy_format.specs.RecordLists.{descr_in, entry_in, field_in, pad_kind, record_in, scalar_in, type_in}
 pub use Rattle.npy_format.specs.SavedFiles.{LoadsAs}
-pub use Rattle.npy_format.specs.Tokens.{behind_long, integer_token, is_integer, is_plain_byte, is_quote, is_space, text_token, token_from, tokens, unspaced_text, word, word_token}
-pub use Rattle.npy_format.specs.Words.{Answers, AreInOrder, EachWithin, Gives, IsShallow, TooLarge, blocks, count, decode_item, encode_item, flat_map, is_ascii_alphabetic, is_c_contiguous, is_f_contiguous, item_at, item_from, item_size, leaves_of, little_bytes, max_bytes, max_depth, max_leaves, place, position, prefix_len, put, run_offsets, shape_text, spelling, value_of}
+pub use Rattle.npy_format.specs.Tokens.{behind_long, integer_token, is_integer, is_plain_byte, is_space, text_token, token_from, tokens, unspaced_text, word, word_token}
+pub use Rattle.npy_format.specs.Words.{Answers, AreBytes, AreInOrder, EachWithin, Gives, IsShallow, TooLarge, blocks, count, decode_item, encode_item, flat_map, is_ascii_alphabetic, is_c_contiguous, is_f_contiguous, item_at, item_from, item_size, leaves_of, little_bytes, max_bytes, max_depth, max_leaves, place, position, prefix_len, put, run_offsets, shape_text, spelling, value_of}
 unfoldable pub use Rattle.npy_format.specs.Words.{offsets, shape_of}
-pub use Rattle.npy_format.specs.WrittenFiles.{file_of, is_fortran, saved}
+pub use Rattle.npy_format.specs.WrittenFiles.{is_fortran, saved}
 pub use Rattle.npy_format.specs.WrittenHeaders.{entries, entry_separator, gap, in_brackets, opened_entry, padded_text, quoted, separated, spaces_after, with_length, written_descr, written_header, written_text, written_truth}
 pub use Rattle.npy_format.specs.inside.LoadedParts.{load_behind}
 pub use Rattle.npy_format.specs.inside.Places.{BeginsWith, HasLengths, HasPairs, HasValues, Stands, entry_parts}
 pub use Rattle.npy_format.specs.inside.Scanned.{is_string_token, pad_at, string_at, token_of, truth_at}
 pub use Rattle.npy_format.specs.inside.Sound.{IsSound}
-pub use Rattle.npy_format.specs.inside.WrittenItems.{IsPlain, addresses_in_file, as_in_file, capped, file_at, gathered, limit, limits_from}
+pub use Rattle.npy_format.specs.inside.WrittenItems.{IsPlain, addresses_in_file, as_in_file, capped, gathered, limit, limits_from}
 pub use Rattle.std.specs.List.{repeat}

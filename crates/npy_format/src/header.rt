@@ -75,11 +75,8 @@ fn value_under<'a>(key: &[u8], pairs: &'a [u8]) -> Result<&'a [u8], Refusal>
 fn truth(text: &[u8]) -> Result<bool, Refusal>
     ensures { result ≡ truth_at (tokens text.now) }
 {
-    let Some((first, _)) = next_token(text) else {
-        return Err(Refusal::BadHeader);
-    };
-    match first {
-        Token::Truth(truth) => Ok(truth),
+    match next_token(text) {
+        Some((Token::Truth(truth), _)) => Ok(truth),
         _ => Err(Refusal::BadHeader),
     }
 }

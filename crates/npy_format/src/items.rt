@@ -17,20 +17,6 @@ fn place(run: Run, k: usize) -> usize
     (run.offset as isize + k as isize * run.step) as usize
 }
 
-/// Appends the items of `width` bytes of a run, one by one.
-fn push_each(file: &mut Vec<u8>, bytes: &[u8], run: Run, width: usize) -> Result<(), AllocError>
-    requires within { EachWithin (length bytes.now) run.offset run.step width run.count }
-    requires few { run.count < 2 ^ 63 }
-    ensures { OnOk result
-        (file.new.items ≡ file.old.items ++ gathered width bytes.now (run_offsets run)) }
-{
-    for k in 0..run.count {
-        let at = place(run, k);
-        file.extend_from_slice(&bytes[at..at + width])?;
-    }
-    Ok(())
-}
-
 /// Appends `len` bytes.
 fn push_stretch(file: &mut Vec<u8>, bytes: &[u8], at: usize, len: usize) -> Result<(), AllocError>
     requires { at + len ≤ length bytes.now }
@@ -47,7 +33,7 @@ fn is_adjacent(run: Run, width: usize) -> bool
     run.step == width as isize
 }
 
-/// Appends the items of a run, all at once if they are adjacent.
+/// Appends the items of `width` bytes of a run, all at once if they are adjacent.
 fn push_run(file: &mut Vec<u8>, bytes: &[u8], run: Run, width: usize) -> Result<(), AllocError>
     requires within { EachWithin (length bytes.now) run.offset run.step width run.count }
     requires some { 1 ≤ run.count }
@@ -59,27 +45,9 @@ fn push_run(file: &mut Vec<u8>, bytes: &[u8], run: Run, width: usize) -> Result<
     if is_adjacent(run, width) {
         return push_stretch(file, bytes, run.offset, run.count * width);
     }
-    push_each(file, bytes, run, width)
-}
-
-/// Appends the items of runs.
-fn push_runs(
-    file: &mut Vec<u8>,
-    bytes: &[u8],
-    runs: Runs<'_>,
-    width: usize,
-) -> Result<(), AllocError>
-    requires within { All
-        (λ run. EachWithin (length bytes.now) run.offset run.step width run.count) runs }
-    requires some { All (λ run. 1 ≤ run.count) runs }
-    requires few { All (λ run. run.count < 2 ^ 63) runs }
-    requires width { width ≤ 65536 }
-    ensures { OnOk result
-        (file.new.items ≡ file.old.items
-        ++ gathered width bytes.now (flat_map run_offsets runs.entry)) }
-{
-    for run in runs {
-        push_run(file, bytes, run, width)?;
+    for k in 0..run.count {
+        let at = place(run, k);
+        file.extend_from_slice(&bytes[at..at + width])?;
     }
     Ok(())
 }
@@ -110,7 +78,10 @@ pub(crate) fn push_items(
     if are_together(layout, width) {
         return push_stretch(file, bytes, layout.first_address(), count * width);
     }
-    push_runs(file, bytes, Runs::new(layout), width)
+    for run in Runs::new(layout) {
+        push_run(file, bytes, run, width)?;
+    }
+    Ok(())
 }
 
 /// The largest byte that a file stores for a scalar.

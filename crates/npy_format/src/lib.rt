@@ -12,7 +12,7 @@ mod record_list;
 mod token;
 mod writer;
 
-pub use file_parts::{FileParts, SavedParts, npy_load, npy_parts};
+pub use file_parts::{FileParts, npy_load};
 pub use header::{Header, header_read};
 pub use reader::{MAX_HEADER, front_len, npy_read};
-pub use writer::npy_write;
+pub use writer::{SavedParts, npy_parts, npy_write};

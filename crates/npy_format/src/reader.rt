@@ -31,10 +31,7 @@ fn split_front(n: usize, bytes: &[u8]) -> Result<(&[u8], &[u8]), Refusal>
 fn begins_well(file: &[u8]) -> bool
     ensures { result ≡ begins_well file.now }
 {
-    match file {
-        [0x93, b'N', b'U', b'M', b'P', b'Y', ..] => true,
-        _ => false,
-    }
+    matches!(file, [0x93, b'N', b'U', b'M', b'P', b'Y', ..])
 }
 
 /// The number of bytes that store the length of the header.

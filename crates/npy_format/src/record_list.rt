@@ -37,10 +37,7 @@ fn scalar(text: &[u8]) -> Result<Descr, Refusal>
     ensures value { result ≡ scalar_in text.now }
     ensures shallow { IfOk result (λ descr. (levels : ℕ) → IsShallow levels descr) }
 {
-    match typestr_read(text) {
-        Ok(scalar) => Ok(Descr::Scalar(scalar)),
-        Err(refusal) => Err(refusal),
-    }
+    Ok(Descr::Scalar(typestr_read(text)?))
 }
 
 /// The type of a field.

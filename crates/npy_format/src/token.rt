@@ -1,6 +1,6 @@
 //! The tokens of a header.
 ghost use Rattle.std.specs.Prelude.{◌≡◌, ◌≤◌, ◌∷◌, [], length, MatchOption};
-ghost use Rattle.npy_format.specs.Clauses.{is_ascii_alphabetic, prefix_len, is_space, unspaced_text, is_quote, is_plain_byte, text_token, is_integer, behind_long, integer_token, word, word_token, token_from, tokens, token_of};
+ghost use Rattle.npy_format.specs.Clauses.{is_ascii_alphabetic, prefix_len, is_space, unspaced_text, is_plain_byte, text_token, is_integer, behind_long, integer_token, word, word_token, token_from, tokens, token_of};
 
 use elem_descr::digits_len;
 
@@ -23,12 +23,6 @@ fn is_space(byte: u8) -> bool
     ensures { result ≡ is_space byte }
 {
     matches!(byte, b' ' | b'\t' | b'\n' | b'\r')
-}
-
-fn is_quote(byte: u8) -> bool
-    ensures { result ≡ is_quote byte }
-{
-    byte == b'\'' || byte == b'"'
 }
 
 fn is_plain(quote: u8, byte: u8) -> bool
@@ -138,7 +132,7 @@ fn token_from<'a>(first: u8, rest: &'a [u8], text: &'a [u8]) -> (Token<'a>, &'a 
     requires { text.now ≡ first ∷ rest.now }
     ensures { (token_of result.0, result.1.now) ≡ token_from first rest.now }
 {
-    if is_quote(first) {
+    if first == b'\'' || first == b'"' {
         return text_token(first, rest);
     }
     if first.is_ascii_digit() {

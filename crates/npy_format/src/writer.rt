@@ -1,17 +1,24 @@
 //! Writes files.
-ghost use Rattle.std.specs.Prelude.{◌≡◌, Bool, ◌+◌, ◌*◌, ◌<◌, ◌≤◌, length, map, All, IfOk, Err};
-ghost use Rattle.npy_format.specs.Clauses.{TooLarge, Gives, item_size, item_from, max_bytes, count, offsets, written_text, written_header, is_fortran, file_of, saved, LoadsAs, IsSound, file_at};
+ghost use Rattle.std.specs.Prelude.{◌≡◌, ◌++◌, ◌+◌, ◌*◌, ◌<◌, ◌≤◌, length, map, All, IfOk, Err};
+ghost use Rattle.npy_format.specs.Clauses.{TooLarge, Gives, item_size, item_from, max_bytes, count, offsets, written_text, written_header, is_fortran, item_at, saved, AreBytes, LoadsAs, IsSound};
 
 use crate::file_header::file_header;
 use crate::header_text::header_text;
-use crate::items::{push_items, write_items};
+use crate::items::{are_plain, are_together, push_items, write_items};
 use elem_descr::{Descr, Refusal};
 use raw_block::RawBlock;
-use shape_strides::{Layout, MAX_BYTES, Shape};
+use shape_strides::{Layout, MAX_BYTES};
 use std::alloc::{AllocError, Global};
 
+/// A file in two parts, the second of which may be the bytes of a block.
+#[derive(Drop)]
+pub struct SavedParts<'a> {
+    pub front: Vec<u8>,
+    pub items: &'a [u8],
+}
+
 /// Whether items of `width` bytes are adjacent in Fortran order and not in C order.
-pub(crate) fn is_fortran(layout: &Layout, width: usize) -> bool
+fn is_fortran(layout: &Layout, width: usize) -> bool
     ensures { result ≡ is_fortran width layout.now.shape (offsets layout.now) }
 {
     if layout.is_c(width) {
@@ -20,46 +27,28 @@ pub(crate) fn is_fortran(layout: &Layout, width: usize) -> bool
     layout.is_f(width)
 }
 
-/// The bytes of a file before its items.
-pub(crate) fn header(
+/// The bytes of a file before the items of `width` bytes of a layout.
+fn header(
     alloc: Global,
     descr: &Descr,
-    fortran: bool,
-    shape: &Shape,
+    layout: &Layout,
+    width: usize,
 ) -> Result<Vec<u8>, AllocError>
-    ensures { IfOk result
-        (λ file. file.items ≡ written_header (written_text descr.now fortran shape.now)) }
+    ensures { let fortran = is_fortran width layout.now.shape (offsets layout.now) in
+        IfOk result
+        (λ file. file.items ≡ written_header (written_text descr.now fortran layout.now.shape)) }
 {
-    let text = header_text(alloc, descr, fortran, shape)?;
+    let fortran = is_fortran(layout, width);
+    let text = header_text(alloc, descr, fortran, &layout.shape)?;
     file_header(alloc, text.as_slice())
 }
 
-/// The file of items that have `len` bytes.
-pub(crate) fn written(
-    alloc: Global,
-    bytes: &[u8],
-    layout: &Layout,
-    descr: &Descr,
-    len: usize,
-) -> Result<Vec<u8>, AllocError>
-    requires inside { All (λ offset. offset + item_size descr.now ≤ length bytes.now)
-        (offsets layout.now) }
-    ensures { IfOk result
-        (λ file. file.items ≡ file_at descr.now layout.now.shape (offsets layout.now) bytes.now) }
+/// The `len` bytes from `at` on.
+fn stretch(bytes: &[u8], at: usize, len: usize) -> &[u8]
+    requires { at + len ≤ length bytes.now }
+    ensures { result.now ≡ item_at at len bytes.now }
 {
-    let width = descr.size();
-    let fortran = is_fortran(layout, width);
-    let mut file = header(alloc, descr, fortran, &layout.shape)?;
-    let start = file.len();
-    file.reserve_exact(len)?;
-    push_items(&mut file, bytes, layout, width)?;
-    write_items(
-        alloc,
-        &mut file.as_mut_slice()[start..],
-        layout.shape.items(),
-        descr,
-    )?;
-    Ok(file)
+    &bytes[at..at + len]
 }
 
 /// What holds for an element type.
@@ -72,19 +61,61 @@ fn look_at(descr: &Descr)
     };
 }
 
-/// What is written for the items of a layout loads again.
-pub(crate) fn will_load(bytes: &[u8], layout: &Layout, descr: &Descr)
-    requires inside { All (λ offset. offset + item_size descr.now ≤ length bytes.now)
+/// What is saved of the items of a layout loads again.
+fn will_load(bytes: &[u8], layout: &Layout, descr: &Descr)
+    requires { All (λ offset. offset + item_size descr.now ≤ length bytes.now)
         (offsets layout.now) }
-    requires small { count layout.now.shape * item_size descr.now ≤ max_bytes }
-    ensures { (fortran : Bool) →
-        let items = map (item_from descr.now bytes.now) (offsets layout.now) in
-        LoadsAs (file_of descr.now fortran layout.now.shape items)
-        descr.now layout.now.shape items }
+    ensures bytes { AreBytes bytes.now }
+    ensures loads { let items = map (item_from descr.now bytes.now) (offsets layout.now) in
+        IfOk (saved descr.now layout.now.shape (offsets layout.now) items)
+        (λ file. LoadsAs file descr.now layout.now.shape items) }
 {
     look_at(descr);
     let _bytes = bytes.len();
     let _lengths = layout.shape.as_slice();
+}
+
+/// The file that `npy_write` returns, in two parts. If the items are stored in the block as in the
+/// file, the second part is their bytes there.
+pub fn npy_parts<'a>(
+    alloc: Global,
+    block: &'a RawBlock,
+    layout: &Layout,
+    descr: &Descr,
+) -> Result<SavedParts<'a>, Refusal>
+    requires inside { All (λ offset. offset + item_size descr.now ≤ length block.now)
+        (offsets layout.now) }
+    ensures gives { Gives (λ parts. parts.front.items ++ parts.items.now) result
+        (saved descr.now layout.now.shape (offsets layout.now)
+        (map (item_from descr.now block.now) (offsets layout.now))) }
+    ensures large { max_bytes < count layout.now.shape * item_size descr.now →
+        result ≡ Err TooLarge }
+    ensures loads { let items = map (item_from descr.now block.now) (offsets layout.now) in
+        IfOk (saved descr.now layout.now.shape (offsets layout.now) items)
+        (λ file. LoadsAs file descr.now layout.now.shape items) }
+{
+    let bytes = block.bytes();
+    will_load(bytes, layout, descr);
+    let width = descr.size();
+    let len = layout.shape.items() * width;
+    if len > MAX_BYTES {
+        return Err(Refusal::TooLarge);
+    }
+    let mut front = header(alloc, descr, layout, width)?;
+    if are_plain(descr) && are_together(layout, width) {
+        let items = stretch(bytes, layout.first_address(), len);
+        return Ok(SavedParts { front, items });
+    }
+    let start = front.len();
+    front.reserve_exact(len)?;
+    push_items(&mut front, bytes, layout, width)?;
+    write_items(
+        alloc,
+        &mut front.as_mut_slice()[start..],
+        layout.shape.items(),
+        descr,
+    )?;
+    Ok(SavedParts { front, items: &[] })
 }
 
 /// The file of the items of a layout, of version 1.0, or 2.0 if the header is too long for that.
@@ -110,11 +141,7 @@ pub fn npy_write(
         IfOk (saved descr.now layout.now.shape (offsets layout.now) items)
         (λ file. LoadsAs file descr.now layout.now.shape items) }
 {
-    let len = layout.shape.items() * descr.size();
-    if len > MAX_BYTES {
-        return Err(Refusal::TooLarge);
-    }
-    let bytes = block.bytes();
-    will_load(bytes, layout, descr);
-    Ok(written(alloc, bytes, layout, descr, len)?)
+    let SavedParts { mut front, items } = npy_parts(alloc, block, layout, descr)?;
+    front.extend_from_slice(items)?;
+    Ok(front)
 }

@@ -1,7 +1,7 @@
 -- Items as a file stores them, computed from their bytes in memory.
 use Rattle.std.specs.Prelude.{◌≡◌, ℕ, ◌+◌, ◌-◌, min, List, [], ◌∷◌, ◌++◌, map, replicate, if◌then◌else◌}
-use Rattle.npy_format.specs.Words.{flat_map, item_at, Descr, Leaf, Scalar, Byte, Int, Bytes, LeafValue, size, decode, item_size, decode_item, encode_item, encode_from, blocks, item_from, fortran_order, BoolScalar}
-use Rattle.npy_format.specs.WrittenFiles.{is_fortran, file_of}
+use Rattle.npy_format.specs.Words.{flat_map, item_at, Descr, Leaf, Scalar, Byte, Int, Bytes, LeafValue, size, decode, item_size, decode_item, encode_item, encode_from, blocks, fortran_order, BoolScalar}
+use Rattle.npy_format.specs.WrittenFiles.{is_fortran}
 
 -- the value of a leaf of an item
 abbrev pub read_leaf : List ℕ → Leaf → LeafValue
@@ -46,7 +46,3 @@ gathered width bytes addresses = flat_map (λ address. item_at address width byt
 -- `count` adjacent items, as a file stores them
 abbrev pub as_in_file : Descr → ℕ → List ℕ → List ℕ
 as_in_file descr count bytes = flat_map (λ item. encode_item descr (decode_item descr item)) (blocks (item_size descr) count bytes)
-
--- the file of an array whose items have these addresses
-abbrev pub file_at : Descr → List ℕ → List ℕ → List ℕ → List ℕ
-file_at descr shape addresses bytes = file_of descr (is_fortran (item_size descr) shape addresses) shape (map (item_from descr bytes) addresses)

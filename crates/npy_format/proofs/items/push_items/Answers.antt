@@ -1,6 +1,6 @@
-use Rattle.std.proofs.Common.{◌≡◌, ◌≤◌, ◌<◌, ◌+◌, ◌*◌, ◌^◌, length, All, sym, ap, subst, ◌∙◌, arith, rules}
-use Rattle.npy_format.proofs.Words.{flat_map, item_at, EachWithin, max_bytes, offsets, length-offsets, run_offsets, runs, runs-within, gathered, addresses_in_file}
-use Rattle.npy_format.proofs.GatherLaws.{together, in_file-none, few-counts}
+use Rattle.std.proofs.Common.{◌≡◌, ◌≤◌, ◌<◌, ◌+◌, ◌*◌, ◌^◌, ◌++◌, length, All, sym, ap, subst, ◌∙◌, arith, rules}
+use Rattle.npy_format.proofs.Words.{All-head, All-rest, Run, flat_map, item_at, EachWithin, max_bytes, offsets, length-offsets, run_offsets, runs, runs-within, gathered, addresses_in_file}
+use Rattle.npy_format.proofs.GatherLaws.{together, in_file-none, few-counts, run_pushed}
 use Rattle.npy_format.proofs.items.push_items.Goals as goal
 
 pub push_stretch-requires : goal.push_stretch-requires
@@ -17,22 +17,34 @@ returns-then-are_together c =
     let is : gathered c.args.width c.args.bytes.now (addresses_in_file c.args.width l.shape (offsets l)) ≡ item_at c.first_address.result (c.items-count.result * c.args.width) c.args.bytes.now = all.joined ∙ (λ i. item_at (sym c.first_address.ensures i) (sym c.items-count.ensures.value i * c.args.width) c.args.bytes.now) in
     search (rules, is, c.push_stretch.ensures)
 
-pub push_runs-requires-clause-within : goal.push_runs-requires-clause-within
-push_runs-requires-clause-within c =
+pub loop-run-init : goal.loop-run-init
+loop-run-init c =
     let l = c.args.layout.now in
     let len = length c.args.bytes.now in
     let width = c.args.width in
-    let ends = subst (All (λ offset. offset + width ≤ len)) (sym c.new.ensures.offsets) c.requires.inside in
-    subst (All (λ run. EachWithin len run.offset run.step width run.count)) (sym c.new.ensures.runs) (runs-within len width (λ run. run) (runs l) (c.new.ensures.lie max_bytes 1 l.within_limit) ends)
+    let ends = subst (All (λ offset. offset + width ≤ len)) (sym c.new-run-items.ensures.offsets) c.requires.inside in
+    let none = in_file-none width l.shape (offsets l) (sym c.are_together.ensures ∙ c.if-are_together.false) in
+    let it : c.into_iter-run-iterator.result ≡ c.new-run-items.result = search rules in
+    let made = it ∙ c.new-run-items.ensures.runs in
+    record {
+      rest = ap (λ all. c.args.file.now.items ++ gathered width c.args.bytes.now all) (ap (flat_map run_offsets) made ∙ c.new-run-items.ensures.offsets ∙ sym none);
+      within = subst (All (λ run. EachWithin len run.offset run.step width run.count)) (sym made) (runs-within len width (λ run. run) (runs l) (c.new-run-items.ensures.lie max_bytes 1 l.within_limit) ends);
+      some = subst (All (λ run. 1 ≤ run.count)) (sym it) (search rules);
+      few = subst (All (λ run. run.count < 2 ^ 63)) (sym made) (few-counts l (omega (arith, c.items-count.ensures.value, c.items-count.ensures.limit)) c.new-run-items.ensures.offsets);
+    }
 
-pub push_runs-requires-clause-few : goal.push_runs-requires-clause-few
-push_runs-requires-clause-few c =
-    let l = c.args.layout.now in
-    subst (All (λ run. run.count < 2 ^ 63)) (sym c.new.ensures.runs) (few-counts l (omega (arith, c.items-count.ensures.value, c.items-count.ensures.limit)) c.new.ensures.offsets)
+pub push_run-requires-clause-within : goal.push_run-requires-clause-within
+push_run-requires-clause-within c =
+    let Fits = λ (run : Run). EachWithin (length c.args.bytes.now) run.offset run.step c.args.width run.count in
+    All-head Fits c.in-Some.run' _ (subst (All Fits) c.in-Some.ensures.steps c.loop-run.invariant.within)
 
-pub returns : goal.returns
-returns c =
-    let l = c.args.layout.now in
-    let none = in_file-none c.args.width l.shape (offsets l) (sym c.are_together.ensures ∙ c.if-are_together.false) in
-    let is : gathered c.args.width c.args.bytes.now (addresses_in_file c.args.width l.shape (offsets l)) ≡ gathered c.args.width c.args.bytes.now (flat_map run_offsets c.new.result) = ap (gathered c.args.width c.args.bytes.now) (none ∙ sym c.new.ensures.offsets ∙ ap (flat_map run_offsets) (sym c.new.ensures.runs)) in
-    search (rules, is, c.push_runs.ensures)
+pub loop-run-preserved : goal.loop-run-preserved
+loop-run-preserved c =
+    let inv = c.loop-run.invariant in
+    let steps = c.in-Some.ensures.steps in
+    record {
+      rest = run_pushed c.args.width c.in-Some.run' _ _ c.args.bytes.now c.loop-run.file.items c.push_run.new.file.items _ steps c.in_ok-push_run.ensures inv.rest;
+      within = All-rest (λ run. EachWithin (length c.args.bytes.now) run.offset run.step c.args.width run.count) _ _ _ steps inv.within;
+      some = All-rest (λ run. 1 ≤ run.count) _ _ _ steps inv.some;
+      few = All-rest (λ run. run.count < 2 ^ 63) _ _ _ steps inv.few;
+    }

@@ -1,5 +1,6 @@
-use Rattle.std.proofs.Common.{length, rules}
-use Rattle.npy_format.proofs.GatherLaws.{stretch}
+use Rattle.std.proofs.Common.{◌++◌, length, sym, ap, ◌∙◌, arith, rules}
+use Rattle.npy_format.proofs.Words.{append-nil, run_offsets, begins_within, gathered}
+use Rattle.npy_format.proofs.GatherLaws.{stretch, item_pushed}
 use Rattle.npy_format.proofs.items.push_run.Goals as goal
 
 pub push_stretch-requires : goal.push_stretch-requires
@@ -9,3 +10,18 @@ pub returns-then-is_adjacent : goal.returns-then-is_adjacent
 returns-then-is_adjacent c =
     let all = (stretch (length c.args.bytes.now) c.args.width c.args.run c.args.bytes.now c.requires.within c.requires.some (c.is_adjacent.ensures c.if-is_adjacent.true)).1 in
     search (rules, all, c.push_stretch.ensures)
+
+pub loop-k-init : goal.loop-k-init
+loop-k-init c = sym (append-nil c.args.file.now.items)
+
+pub place-at-requires-clause-start : goal.place-at-requires-clause-start
+place-at-requires-clause-start c = omega (arith, begins_within _ _ _ _ _ _ c.requires.within c.loop-k-test.true)
+
+pub loop-k-preserved : goal.loop-k-preserved
+loop-k-preserved c =
+    item_pushed (length c.args.bytes.now) c.args.width c.args.run c.loop-k.k c.args.bytes.now c.loop-k.file.items c.extend_from_slice.new.self.items c.args.file.now.items c.place-at.result c.requires.within c.loop-k-test.true c.place-at.ensures c.in_ok-extend_from_slice.ensures.items c.loop-k.invariant
+
+pub returns : goal.returns
+returns c =
+    c.loop-k.invariant
+    ∙ ap (λ n. c.args.file.now.items ++ gathered c.args.width c.args.bytes.now (run_offsets (record { offset = c.args.run.offset; count = n; step = c.args.run.step }))) (omega (arith, c.loop-k-test.false, c.loop-k.auto.k-end))

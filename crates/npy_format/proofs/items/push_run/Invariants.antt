@@ -1,6 +1,6 @@
 use Rattle.std.proofs.Common.{◌≡◌, ◌++◌}
 use Rattle.npy_format.proofs.Words.{run_offsets, gathered}
-use Rattle.npy_format.proofs.items.push_each.Given as goal
+use Rattle.npy_format.proofs.items.push_run.Given as goal
 
 -- the items so far are appended
 abbrev pub invariant-loop-k : goal.invariant-loop-k
