@@ -1,5 +1,5 @@
 //! Reads files in two parts.
-ghost use Rattle.std.specs.Prelude.{IfOk, IsErrOf, IsTrue, List, OnOk, [], drop, length, take, ℕ, ◌++◌, ◌+◌, ◌<◌, ◌≡◌, ◌≤◌};
+ghost use Rattle.std.specs.Prelude.{IfOk, IsErrOf, IsTrue, OnOk, length, take, ◌++◌, ◌+◌, ◌≡◌, ◌≤◌};
 ghost use Rattle.npy_files.specs.Clauses.{IsRead, HasCause, Leaves, Same, Device, TooLong, get};
 
 use crate::store::StoreFault;
@@ -76,41 +76,7 @@ fn read_block<D: Disk>(
     Ok(block.finish())
 }
 
-/// The file with this name, which is there, cut in two.
-fn read_found<D: Disk, C: Cutter>(
-    disk: &mut D,
-    alloc: Global,
-    cutter: &C,
-    name: &[u8],
-    limit: usize,
-) -> Result<FileParts, StoreFault>
-    ensures read { IsTrue D.honest →
-        IfOk result (λ parts. get (D.files disk.old) name.now
-        ≡ Some (parts.front.items ++ parts.block)) }
-    ensures within { IsTrue D.honest →
-        IfOk result (λ parts. length (parts.front.items ++ parts.block) ≤ limit) }
-    ensures long { IsTrue D.honest → IsErrOf result TooLong →
-        (bytes : List ℕ) × (get (D.files disk.old) name.now ≡ Some bytes) × (limit < length bytes) }
-    ensures files { IsTrue D.honest → D.files disk.new ≡ D.files disk.old }
-    ensures crash { IsTrue D.honest → Leaves Same (D.history disk.old) (D.history disk.new) }
-    ensures cause { IsTrue D.honest →
-        HasCause Device (D.failures disk.old) (D.failures disk.new) result }
-{
-    let (mut file, told) = disk.open(name)?;
-    if told > limit as u64 {
-        return Err(StoreFault::TooLong);
-    }
-    let len = told as usize;
-    let mut front = Vec::new(alloc);
-    front.resize(len.min(PIECE), 0)?;
-    fill(disk, &mut file, front.as_mut_slice(), 0)?;
-    let cut = cutter.front_len(front.as_slice()).min(front.len());
-    let block = read_block(disk, alloc, &mut file, &front[cut..], len - cut)?;
-    front.truncate(cut);
-    Ok(FileParts { front, block })
-}
-
-/// The file with this name, if there is one.
+/// The file with this name, cut in two, if there is one.
 pub(crate) fn read_file<D: Disk, C: Cutter>(
     disk: &mut D,
     alloc: Global,
@@ -126,11 +92,21 @@ pub(crate) fn read_file<D: Disk, C: Cutter>(
     ensures cause { IsTrue D.honest →
         HasCause Device (D.failures disk.old) (D.failures disk.new) result }
 {
-    if disk.has_file(name)? {
-        Ok(Some(read_found(disk, alloc, cutter, name, limit)?))
-    } else {
-        Ok(None)
+    if !disk.has_file(name)? {
+        return Ok(None);
     }
+    let (mut file, told) = disk.open(name)?;
+    if told > limit as u64 {
+        return Err(StoreFault::TooLong);
+    }
+    let len = told as usize;
+    let mut front = Vec::new(alloc);
+    front.resize(len.min(PIECE), 0)?;
+    fill(disk, &mut file, front.as_mut_slice(), 0)?;
+    let cut = cutter.front_len(front.as_slice()).min(front.len());
+    let block = read_block(disk, alloc, &mut file, &front[cut..], len - cut)?;
+    front.truncate(cut);
+    Ok(Some(FileParts { front, block }))
 }
 
 /// Decides where a file is cut in two when it is read. Wherever that is, the two parts together

@@ -2,7 +2,8 @@
 ghost use Rattle.npy_files.specs.Names as spec;
 ghost use Rattle.npy_files.specs.Stores.{FaultHasCause, IsKept, IsSameStore, ReadsFile, StoreState, WritesFile};
 ghost use Rattle.std.specs.Prelude.{IfOk, false, true, ◌++◌, ◌+◌, ◌<◌, ◌≡◌, ◌≤◌};
-ghost use Rattle.npy_files.specs.Words.{get};
+ghost use Rattle.npy_files.specs.Folders.{fault_of};
+ghost use Rattle.npy_files.specs.declared.store.StoreFault.TheVariants.{Memory};
 
 use disk::DiskFault;
 use npy_format::FileParts;
@@ -21,8 +22,6 @@ pub enum StoreFault {
 }
 
 impl From<AllocError> for StoreFault {
-    ghost use Rattle.npy_files.specs.declared.store.StoreFault.TheVariants.{Memory};
-
     ghost from_gives = { λ _ e. e ≡ Memory };
 
     fn from(_error: AllocError) -> StoreFault {
@@ -31,8 +30,6 @@ impl From<AllocError> for StoreFault {
 }
 
 impl<T: Drop> From<AllocFailed<T>> for StoreFault {
-    ghost use Rattle.npy_files.specs.declared.store.StoreFault.TheVariants.{Memory};
-
     ghost from_gives = { λ _ e. e ≡ Memory };
 
     fn from(_error: AllocFailed<T>) -> StoreFault {
@@ -41,8 +38,6 @@ impl<T: Drop> From<AllocFailed<T>> for StoreFault {
 }
 
 impl From<DiskFault> for StoreFault {
-    ghost use Rattle.npy_files.specs.Folders.{fault_of};
-
     ghost from_gives = { λ fault e. e ≡ fault_of fault };
 
     fn from(fault: DiskFault) -> StoreFault {
