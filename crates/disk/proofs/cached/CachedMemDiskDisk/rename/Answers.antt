@@ -1,4 +1,4 @@
-use Rattle.std.proofs.Common.{◌≡◌, ◌∷◌, ◌∙◌, true, List, Some, None, sym, ap}
+use Rattle.std.proofs.Common.{◌∷◌, ◌∙◌, true, List, Some, None, sym, ap}
 use Rattle.disk.proofs.Words.{get, Event, Changed, bytes_of_change, found, is_synced}
 use Rattle.disk.proofs.Events.{still_both, still_in_place, shifted, shifts_files, shifts_both, shifts_whole, is_synced_there}
 use Rattle.disk.proofs.cached.CachedMemDiskDisk.rename.Goals as goal
