@@ -1,6 +1,6 @@
 //! Operations on all items of arrays: operands are cast, stretched and combined.
 ghost use Rattle.std.specs.Prelude.{IfOk, IfSome, IsTrue, map, true, ◌≡◌, ◌≤◌};
-ghost use Rattle.elementwise.specs.Clauses.{can_cast, cast_item, binary_item, binary_result, pairwise, stretched_items, unary_item, unary_result, C, Gives, can_stretch, encode_item, item_from, item_size, items, offsets, offsets_in, owned_items, AreCastable, IsCombined, fitted_layout, IsStretched, flat_map};
+ghost use Rattle.elementwise.specs.Clauses.{can_cast, cast_item, binary_item, binary_result, pairwise, stretched_items, unary_item, unary_result, AreAlike, C, Gives, can_stretch, encode_item, item_from, item_size, items, offsets, offsets_in, owned_items, AreCastable, IsCombined, fitted_layout, IsStretched, flat_map};
 
 use crate::castable::keeps_items;
 use crate::casts::cast_items;
@@ -200,9 +200,19 @@ fn make_whole(
     made(alloc, pairing, operands)
 }
 
-/// The operands as runs of items, if there are many, none has to be stretched, and a cast changes
-/// the bytes of one of them.
-fn in_runs<'a>(pairing: &Pairing<'_>, both: Broadcast<'a>) -> Option<InRuns<'a>>
+/// Whether items have a shape already, and a cast to an element type keeps their bytes.
+fn stays(from: Items<'_>, to: &Descr, shape: &Shape) -> bool
+    ensures shape { IsTrue result → from.entry.layout.now.shape ≡ shape.now }
+    ensures alike { IsTrue result → AreAlike from.entry.descr.now to.now }
+    ensures items { IsTrue result → map (item_from to.now from.entry.block.now)
+        (offsets from.entry.layout.now)
+        ≡ map (cast_item from.entry.descr.now to.now) (items from.entry) }
+{
+    from.layout.shape.as_slice() == shape.as_slice() && keeps_items(from.block, from.descr, to)
+}
+
+/// The operands as runs of items, if there are many and they need not be stretched.
+fn in_runs(both: Broadcast<'_>) -> Option<InRuns<'_>>
     ensures { IfSome result (λ runs. runs.both ≡ both.entry) }
 {
     let Broadcast { left, right, shape } = both;
@@ -210,11 +220,6 @@ fn in_runs<'a>(pairing: &Pairing<'_>, both: Broadcast<'a>) -> Option<InRuns<'a>>
     if shape.items() < MANY_ITEMS
         || left.layout.shape.as_slice() != lengths
         || right.layout.shape.as_slice() != lengths
-    {
-        return None;
-    }
-    if keeps_items(left.block, left.descr, &Descr::Scalar(pairing.left()))
-        && keeps_items(right.block, right.descr, &Descr::Scalar(pairing.right()))
     {
         return None;
     }
@@ -232,7 +237,26 @@ pub(crate) fn make_cast(
     requires { AreCastable pairing.now both }
     ensures { IfOk result (IsCombined pairing.now both.entry) }
 {
-    match in_runs(pairing, both) {
+    let Broadcast { left, right, shape } = both;
+    let _items = shape.items();
+    let left_to = Descr::Scalar(pairing.left());
+    let right_to = Descr::Scalar(pairing.right());
+    if stays(left, &left_to, shape) && stays(right, &right_to, shape) {
+        let operands = Operands {
+            left: Items {
+                block: left.block,
+                layout: left.layout,
+                descr: &left_to,
+            },
+            right: Items {
+                block: right.block,
+                layout: right.layout,
+                descr: &right_to,
+            },
+        };
+        return made(alloc, pairing, operands);
+    }
+    match in_runs(both) {
         Some(runs) => make_by_chunks(alloc, pairing, runs),
         None => make_whole(alloc, pairing, both),
     }
