@@ -109,25 +109,28 @@ impl PlanAxes {
         Some(step)
     }
 
-    /// The axes of the same items, with an inner axis in place of the shifts if these rise evenly:
-    /// the items are then copied as a run.
-    pub(crate) fn evened(self, alloc: Global) -> Result<PlanAxes, AllocError>
-        ensures { IfOk result (λ axes. offsets_from axes ≡ offsets_from self) }
+    /// The axes of the same items, with an inner axis in place of the shifts, if these rise evenly:
+    /// the items are then copied as a run. Its frame is large, so it is not inlined.
+    #[inline(never)]
+    pub(crate) fn evened(&self, alloc: Global) -> Result<Option<PlanAxes>, AllocError>
+        ensures { IfOk result
+            (λ even. IfSome even (λ axes. offsets_from axes ≡ offsets_from self.now)) }
     {
         let Some(step) = self.even_step() else {
-            return Ok(self);
+            return Ok(None);
         };
         let shape = Shape::from_lengths(alloc, &[self.shifts.len()])?;
         let strides = Strides::from_slice(alloc, &[step as isize])?;
         let Some(inner) = Layout::new(shape, strides, self.inner.offset) else {
-            return Ok(self);
+            return Ok(None);
         };
         let shifts = vec![in alloc; self.shifts[0]; 1]?;
-        Ok(PlanAxes {
-            outer: self.outer,
+        let outer = Layout::try_copy(alloc, &self.outer)?;
+        Ok(Some(PlanAxes {
+            outer,
             shifts,
             inner,
-        })
+        }))
     }
 
     /// The items at a place of the outer axes.

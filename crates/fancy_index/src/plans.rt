@@ -69,7 +69,11 @@ impl Plan {
             shifts,
             inner,
         };
-        let axes = Box::new(alloc, axes.evened(alloc)?)?;
+        if let Some(even) = axes.evened(alloc)? {
+            let axes = Box::new(alloc, even)?;
+            return Ok(Plan { shape, axes });
+        }
+        let axes = Box::new(alloc, axes)?;
         Ok(Plan { shape, axes })
     }
 

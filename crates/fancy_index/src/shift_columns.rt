@@ -176,8 +176,19 @@ pub(crate) struct PointOffsets<'a> {
     pub offsets: Vec<u32>,
 }
 
-/// Adds the distance of its offset from the start to as many shifts as a run of places has, starting
-/// with one of them.
+/// Adds to each shift the distance of its offset from the start.
+fn grow(shifts: &mut [u32], start: u32, offsets: &[u32])
+    requires start { start ≤ max_bytes }
+    requires many { length offsets.now ≡ length shifts.old }
+    requires can { AllCanGrow start (λ k. get_or offsets.now k 0) shifts.old }
+    ensures { HaveAllGrown start (λ k. get_or offsets.now k 0) shifts.old shifts.new }
+{
+    for k in 0..shifts.len() {
+        shifts[k] = shifts[k] + offsets[k] - start;
+    }
+}
+
+/// Adds it to as many shifts as a run of places has, starting with one of them.
 #[inline(always)]
 fn grow_each(shifts: &mut [u32], at: usize, start: u32, offsets: &[u32], places: Run)
     requires start { start ≤ max_bytes }
@@ -304,13 +315,21 @@ pub(crate) fn add_points(
         let number = point_number lengths.now own points.entry.offsets.items in
         OnOk result (HaveGrown start (count lengths.now) number shifts.old.items shifts.new.items) }
 {
-    if shifts.is_empty() && points.lengths == lengths {
-        *shifts = points.offsets;
+    if points.lengths == lengths {
+        if shifts.is_empty() {
+            *shifts = points.offsets;
+        } else {
+            grow(shifts.as_mut_slice(), start, points.offsets.as_slice());
+        }
         return Ok(());
     }
     let places = stretched_places(alloc, points.lengths, lengths)?;
     begin(alloc, shifts, start, places.shape.items())?;
-    let offsets = points.offsets.as_slice();
-    grow_along(shifts.as_mut_slice(), start, offsets, &places);
+    grow_along(
+        shifts.as_mut_slice(),
+        start,
+        points.offsets.as_slice(),
+        &places,
+    );
     Ok(())
 }

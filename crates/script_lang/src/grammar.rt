@@ -119,8 +119,13 @@ pub fn parse(alloc: Global, line: &[u8]) -> Result<Option<Command>, Refusal>
     };
     // A command is passed on as it is, because it is the largest value of a line.
     match first {
-        Ok((command, rest)) if is_at_end(rest) => Ok(Some(command)),
-        Ok(_) => Err(Refusal::Syntax),
+        Ok((command, rest)) => {
+            if is_at_end(rest) {
+                return Ok(Some(command));
+            }
+            drop(command);
+            Err(Refusal::Syntax)
+        }
         Err(refusal) => Err(refusal),
     }
 }

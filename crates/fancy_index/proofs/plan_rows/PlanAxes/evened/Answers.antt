@@ -1,15 +1,15 @@
 use Rattle.std.proofs.Common.{◌≡◌, ◌<◌, ◌≤◌, ℕ, List, [], ◌∷◌, length, get_or, vec_len, rules, pos, w64, sym, subst, ap, ◌∙◌, arith}
-use Rattle.fancy_index.proofs.Words.{to_z_pos, get_or_default, count, max_bytes}
+use Rattle.fancy_index.proofs.Words.{to_z_pos, get_or_default, Layout, count, max_bytes}
 use Rattle.fancy_index.specs.inside.Moved.{AllStart, laid_offsets}
 use Rattle.fancy_index.proofs.EvenLaws.{evened-starts, evened-offsets}
 use Rattle.fancy_index.proofs.plan_rows.PlanAxes.evened.Goals as goal
-use Rattle.fancy_index.proofs.plan_rows.PlanAxes.evened.Goals.{In_ok-shifts}
+use Rattle.fancy_index.proofs.plan_rows.PlanAxes.evened.Goals.{In_ok-outer}
 
-module _ (c : In_ok-shifts) where
+module _ (c : In_ok-outer) where
   abbrev shifts : List ℕ
-  shifts = c.args.self.shifts.items
+  shifts = c.args.self.now.shifts.items
 
-  size : vec_len c.args.self.shifts ≡ length shifts
+  size : vec_len c.args.self.now.shifts ≡ length shifts
   size = search rules
 
   lengths : c.in_ok-shape.shape ≡ length shifts ∷ []
@@ -24,20 +24,22 @@ module _ (c : In_ok-shifts) where
   strides : c.in-Some-new.inner.strides ≡ pos c.in-Some.step ∷ []
   strides = c.in-Some-new.ensures.strides some ∙ c.in_ok-strides.ensures ∙ ap (λ z. z ∷ []) (to_z_pos w64 c.in-Some.step (omega arith))
 
-  offset : c.in-Some-new.inner.offset ≡ c.args.self.inner.offset
+  offset : c.in-Some-new.inner.offset ≡ c.args.self.now.inner.offset
   offset = c.in-Some-new.ensures.offset some
 
   only : c.in_ok-shifts.shifts.items ≡ get_or shifts 0 0 ∷ []
   only = c.in_ok-shifts.ensures.items_if_clones_equal (λ y is. is) ∙ ap (λ n. n ∷ []) (c.index.ensures ∙ get_or_default shifts 0 _ 0 (omega (arith, c.in-Some.ensures.some)))
 
-  starts : AllStart c.args.self.outer c.in_ok-shifts.shifts.items c.in-Some-new.inner
-  starts = subst (λ (s : List ℕ). AllStart c.args.self.outer s c.in-Some-new.inner) (sym only) (evened-starts c.args.self c.in-Some.step c.in-Some.ensures c.in-Some-new.inner shape strides offset)
+  starts : AllStart c.in_ok-outer.outer c.in_ok-shifts.shifts.items c.in-Some-new.inner
+  starts =
+      let own = evened-starts c.args.self.now c.in-Some.step c.in-Some.ensures c.in-Some-new.inner shape strides offset in
+      subst (λ (o : Layout). AllStart o c.in_ok-shifts.shifts.items c.in-Some-new.inner) (sym c.in_ok-outer.ensures) (subst (λ (s : List ℕ). AllStart c.args.self.now.outer s c.in-Some-new.inner) (sym only) own)
 
-  same : laid_offsets c.args.self.outer c.in_ok-shifts.shifts.items c.in-Some-new.inner ≡ laid_offsets c.args.self.outer shifts c.args.self.inner
-  same = ap (λ s. laid_offsets c.args.self.outer s c.in-Some-new.inner) only ∙ evened-offsets c.args.self c.in-Some.step c.in-Some.ensures c.in-Some-new.inner shape strides offset
+  same : laid_offsets c.in_ok-outer.outer c.in_ok-shifts.shifts.items c.in-Some-new.inner ≡ laid_offsets c.args.self.now.outer shifts c.args.self.now.inner
+  same = (λ i. laid_offsets (c.in_ok-outer.ensures i) (only i) c.in-Some-new.inner) ∙ evened-offsets c.args.self.now c.in-Some.step c.in-Some.ensures c.in-Some-new.inner shape strides offset
 
 pub invariant_of-result : goal.invariant_of-result
-invariant_of-result c = record { small = subst (λ o. o ≤ max_bytes) (sym (offset c)) c.args.self.small; starts = starts c }
+invariant_of-result c = record { small = subst (λ o. o ≤ max_bytes) (sym (offset c)) c.args.self.now.small; starts = starts c }
 
 pub returns : goal.returns
-returns c = same (goal.at.returns c).In_ok-shifts
+returns c = same (goal.at.returns c).In_ok-outer
