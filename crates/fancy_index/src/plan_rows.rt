@@ -103,7 +103,8 @@ impl PlanAxes {
             return None;
         }
         let step = shifts[1].checked_sub(shifts[0])?;
-        if !rise_evenly(shifts, step) {
+        // Most shifts that do not rise evenly show it soon.
+        if !rise_evenly(&shifts[..MANY], step) || !rise_evenly(shifts, step) {
             return None;
         }
         Some(step)
