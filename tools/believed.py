@@ -163,7 +163,7 @@ def inside() -> Iterator[str]:
 
 
 BINDER = re.compile(r"[({]([^(){}:]+?) : ")
-VALUE = re.compile(r"\s*\(?(ℕ|ℤ|Bool|Type|List|Option|Result|Maybe)\b")
+VALUE = re.compile(r"\s*\(?(ℕ|ℤ|Bool|Type|List|Option|Result|Maybe|IndexItem|Values)\b")
 # Two limits that are equal today are two; and do-notation asks for the name of a bind.
 LIMIT = re.compile(r"it : ℕ it = \d+")
 BIND = "◌>>=◌"
