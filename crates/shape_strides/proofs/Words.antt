@@ -48,14 +48,15 @@ pub use Rattle.std.proofs.Math.Seq.{drop-append_seam, take-append_seam}
 pub use Rattle.std.proofs.lemmas.Bool.{and_from, both_ways, cases_order, cond-false, cond-true, cond_both, eq-eqb, eqb-false, eqb-true, false_from_ne_true, ne_eqb}
 pub use Rattle.std.proofs.lemmas.Bool.Decides.{Decides-int_eq, nat_tests}
 pub use Rattle.std.proofs.lemmas.Grind.{flat_map-append}
-pub use Rattle.std.proofs.lemmas.Int.{fits_signed_from_abs, to_z-of_z, to_z_pos}
-pub use Rattle.std.proofs.lemmas.List.{append-nil, append_cancel_left, drop-set, drop_all, get_or-reverse, length-reverse, map-append, map_more, reverse-append, take-append-drop, take-replicate, take_more}
+pub use Rattle.std.proofs.lemmas.Int.{to_z-of_z, to_z_pos}
+pub use Rattle.std.proofs.lemmas.List.{append-nil, append_cancel_left, drop-set, drop_all, get_or-reverse, length-reverse, map-append, reverse-append, take-append-drop, take-replicate, take_more}
 pub use Rattle.std.proofs.lemmas.List.Edits.{length-swap, swap_is}
 pub use Rattle.std.proofs.lemmas.List.Elements.{All-cons}
 pub use Rattle.std.proofs.lemmas.List.Folds.{flat_map-map}
 pub use Rattle.std.proofs.lemmas.List.FromFn.{get_or-map-range_with_len, get_or-range_with_len, length-range_with_len}
 pub use Rattle.std.proofs.lemmas.List.Sorted.{IsNonDecreasingBy-from_sort, IsPermutation-append, IsPermutation-append_comm, IsPermutation-append_left, IsPermutation-append_right, IsPermutation-cons, IsPermutation-reverse, IsPermutation-sym, answers_always, length_permutation}
-pub use Rattle.std.proofs.lemmas.Simd.{map-map}
+pub use Rattle.std.proofs.lemmas.Result.{IfOk-weaker}
+pub use Rattle.std.proofs.lemmas.Simd.{map-map, splat_is_map}
 pub use Rattle.std.specs.Fmt.{HasWritten, IsPlainFormatter}
 unfoldable pub use Rattle.std.specs.Fmt.{digits}
 pub use Rattle.std.specs.List.{refill}

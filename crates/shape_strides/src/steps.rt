@@ -79,17 +79,6 @@ pub(crate) fn reach_of(lengths: &[usize], strides: &[isize]) -> Reach
     reach
 }
 
-/// A stride of 0 for each axis.
-pub(crate) fn zero_strides(alloc: Global, lengths: &[usize]) -> Result<Strides, AllocError>
-    ensures { IfOk result (λ s. s ≡ map (λ _. pos 0) lengths.now) }
-{
-    let mut strides = Strides::new(alloc);
-    for _len in lengths {
-        strides.push(0)?;
-    }
-    Ok(strides)
-}
-
 /// The strides of C order, or 0 for each axis if there are no items.
 pub(crate) fn c_order_strides(
     alloc: Global,
@@ -103,7 +92,7 @@ pub(crate) fn c_order_strides(
 {
     let lengths = shape.as_slice();
     if shape.items() == 0 {
-        return zero_strides(alloc, lengths);
+        return Strides::zeros(alloc, lengths.len());
     }
     let mut strides = Strides::new(alloc);
     let mut bytes = shape.items() * item;
@@ -126,7 +115,7 @@ pub(crate) fn f_order_strides(
 {
     let lengths = shape.as_slice();
     if shape.items() == 0 {
-        return zero_strides(alloc, lengths);
+        return Strides::zeros(alloc, lengths.len());
     }
     let mut strides = Strides::new(alloc);
     let mut step = item;

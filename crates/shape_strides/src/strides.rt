@@ -1,5 +1,5 @@
 //! Strides: how many bytes each axis steps over.
-ghost use Rattle.std.specs.Prelude.{◌≡◌, ◌≢◌, [], ◌∷◌, ◌++◌, ◌+◌, ◌^◌, ◌<◌, pos, neg_ℤ, map, reverse, length, swap, slice_set, slice_index_or, IfOk, OnOk, OnErr, Some};
+ghost use Rattle.std.specs.Prelude.{◌≡◌, ◌≢◌, [], ◌∷◌, ◌++◌, ◌+◌, ◌^◌, ◌<◌, pos, neg_ℤ, map, replicate, reverse, length, swap, slice_set, slice_index_or, IfOk, OnOk, OnErr, Some};
 ghost use Rattle.shape_strides.specs.Contiguity.{strides_text};
 
 use smallvec::SmallVec;
@@ -29,6 +29,14 @@ impl Strides {
         Strides {
             steps: SmallVec::new(alloc),
         }
+    }
+
+    /// `count` strides of 0.
+    pub fn zeros(alloc: Global, count: usize) -> Result<Strides, AllocError>
+        ensures { IfOk result (λ s. s ≡ replicate count (pos 0)) }
+    {
+        let steps = SmallVec::from_elem(alloc, 0, count)?;
+        Ok(Strides { steps })
     }
 
     pub fn from_slice(alloc: Global, steps: &[isize]) -> Result<Strides, AllocError>

@@ -1,5 +1,5 @@
-use Rattle.std.proofs.Common.{◌+◌, ◌/◌, ◌++◌, ◌∷◌, [], pos, w64, drop, get_or, ap, sym, ◌∙◌, append_assoc, arith, div-le_self}
-use Rattle.shape_strides.proofs.Words.{to_z_pos, c_strides}
+use Rattle.std.proofs.Common.{◌+◌, ◌/◌, ◌++◌, ◌∷◌, [], pos, w64, drop, get_or, length, ap, sym, ◌∙◌, append_assoc, arith, div-le_self}
+use Rattle.shape_strides.proofs.Words.{IfOk-weaker, splat_is_map, to_z_pos, c_strides}
 use Rattle.shape_strides.proofs.CountLaws.{bytes-more, c_strides-drop}
 use Rattle.shape_strides.proofs.steps.c_order_strides.Goals as goal
 
@@ -18,3 +18,7 @@ loop-len-preserved c =
       is = more.0;
       rest = ap (λ s. s ++ later) (c.in_ok-push.ensures.ok ∙ ap (λ z. c.loop-len.strides ++ z ∷ []) stride) ∙ append_assoc c.loop-len.strides (_ ∷ []) later ∙ ap (λ s. c.loop-len.strides ++ s) (sym (c_strides-drop c.args.item lengths k c.loop-len-test.true)) ∙ c.loop-len.invariant.rest;
     }
+
+pub returns-then-items-eq0-clause-none : goal.returns-then-items-eq0-clause-none
+returns-then-items-eq0-clause-none c =
+    IfOk-weaker c.zeros.result _ _ (λ strides are _. are ∙ splat_is_map c.args.shape.now _ (pos 0) (sym (ap length c.as_slice-lengths.ensures.value))) c.zeros.ensures

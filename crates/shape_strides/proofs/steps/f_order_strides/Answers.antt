@@ -1,5 +1,5 @@
-use Rattle.std.proofs.Common.{◌+◌, ◌*◌, ◌≤◌, ◌++◌, ◌∷◌, [], w64, drop, get_or, ap, sym, ◌∙◌, append_assoc, arith, mul-le-mul_right, one-mul}
-use Rattle.shape_strides.proofs.Words.{to_z_pos, count, f_strides}
+use Rattle.std.proofs.Common.{◌+◌, ◌*◌, ◌≤◌, ◌++◌, ◌∷◌, [], pos, w64, drop, get_or, length, ap, sym, ◌∙◌, append_assoc, arith, mul-le-mul_right, one-mul}
+use Rattle.shape_strides.proofs.Words.{IfOk-weaker, splat_is_map, to_z_pos, count, f_strides}
 use Rattle.shape_strides.proofs.FortranLaws.{f_strides-drop, step-more, count-rest}
 use Rattle.shape_strides.proofs.steps.f_order_strides.Goals as goal
 
@@ -17,3 +17,7 @@ loop-len-preserved c =
       small = omega (arith, step-more lengths k step below, c.loop-len.invariant.small);
       rest = ap (λ s. s ++ later) (c.in_ok-push.ensures.ok ∙ ap (λ z. c.loop-len.strides ++ z ∷ []) stride) ∙ append_assoc c.loop-len.strides (_ ∷ []) later ∙ ap (λ s. c.loop-len.strides ++ s) (sym (f_strides-drop step lengths k below)) ∙ c.loop-len.invariant.rest;
     }
+
+pub returns-then-items-eq0-clause-none : goal.returns-then-items-eq0-clause-none
+returns-then-items-eq0-clause-none c =
+    IfOk-weaker c.zeros.result _ _ (λ strides are _. are ∙ splat_is_map c.args.shape.now _ (pos 0) (sym (ap length c.as_slice-lengths.ensures.value))) c.zeros.ensures
