@@ -24,7 +24,7 @@ pub use Rattle.std.proofs.Math.Nat.{add-mod-mod, add-mul-mod_self_right, mod-eq_
 pub use Rattle.std.proofs.Math.Seq.{drop-append-add}
 pub use Rattle.std.proofs.lemmas.Bool.{cases_lt}
 pub use Rattle.std.proofs.lemmas.Int.{to_z-of_z, to_z_pos}
-pub use Rattle.std.proofs.lemmas.List.{drop-take, drop_all, get_or-map, length-map, take-append-drop, take-take}
+pub use Rattle.std.proofs.lemmas.List.{drop-take, get_or-map, length-map, take-append-drop, take-take}
 pub use Rattle.std.proofs.lemmas.List.Concat.{flat_map-cons}
 pub use Rattle.std.proofs.raw_atomic.Walks.{proved, proved_at}
 pub use Rattle.std_alloc.proofs.RcSteps.{word, word-Good}

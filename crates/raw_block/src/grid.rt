@@ -1,5 +1,5 @@
 //! Copies the items of a grid column by column to where they are row by row.
-ghost use Rattle.std.specs.Prelude.{◌≡◌, ◌+◌, ◌*◌, ◌^◌, ◌<◌, ◌≤◌, ◌++◌, pos, ◌≤ℤ◌, ◌<ℤ◌, length, take};
+ghost use Rattle.std.specs.Prelude.{◌≡◌, ◌+◌, ◌*◌, ◌^◌, ◌<◌, ◌≤◌, pos, ◌≤ℤ◌, ◌<ℤ◌, length};
 ghost use Rattle.raw_block.specs.Clauses.{position, place, grid_items, GridWithin, band};
 
 use crate::strided::{Steps, copy_arrays};
@@ -58,15 +58,4 @@ pub(crate) fn copy_by_columns<const N: usize>(bytes: &mut [u8], other: &[u8], gr
         let from = grid.column(column);
         copy_arrays::<N>(bytes, to, other, from, grid.rows);
     }
-}
-
-/// Copies the items of a grid by columns over the bytes that start at `from`.
-pub(crate) fn copy_to_end<const N: usize>(bytes: &mut [u8], from: usize, other: &[u8], grid: Grid)
-    requires some { 0 < grid.rows }
-    requires bytes { length bytes.old ≡ from + grid.rows * (grid.columns * N) }
-    requires small { grid.columns * N < 2 ^ 63 }
-    requires source { GridWithin (length other.now) grid N }
-    ensures { bytes.new ≡ take from bytes.old ++ grid_items grid N other.now }
-{
-    copy_by_columns::<N>(&mut bytes[from..], other, grid);
 }
