@@ -3,7 +3,7 @@ ghost use Rattle.std.specs.Prelude.{All, IfOk, length, pos, ◌*◌, ◌++◌, �
 ghost use Rattle.arrays.specs.Clauses.{assigned, items_at, joined_at, EachWithin, item_at, multiples, offsets, run_offsets, grid_of};
 
 use crate::copies::{copy_run, strided};
-use raw_block::{BlockBuilder, Grid, RawBlock};
+use raw_block::{BlockBuilder, Grid, RawBlock, part};
 use shape_strides::{Layout, Rows, Run, Runs, StridedAxis};
 use std::alloc::{AllocError, Global};
 
@@ -33,15 +33,6 @@ pub fn push_run(items: &mut BlockBuilder, block: &RawBlock, run: Run, width: usi
     items.push_strided(block, strided(run, width));
 }
 
-/// The `len` bytes that start at `at`.
-fn stretch(bytes: &[u8], at: usize, len: usize) -> &[u8]
-    requires { at + len ≤ length bytes.now }
-    ensures bytes { result.now ≡ item_at at len bytes.now }
-    ensures len { length result.now ≡ len }
-{
-    &bytes[at..at + len]
-}
-
 /// The items, of `width` bytes, of a layout, adjacent and in C order in a block of their own. They
 /// are copied as one range if they are adjacent in the layout, and run by run or by columns if not.
 pub fn gather(
@@ -61,7 +52,7 @@ pub fn gather(
     if layout.is_c(width) {
         // For the prover alone: the block is within its limit.
         let _len = block.len();
-        let whole = stretch(block.bytes(), layout.first_address(), bytes);
+        let whole = part(block.bytes(), layout.first_address(), bytes);
         return RawBlock::try_copied(alloc, whole);
     }
     let mut items = BlockBuilder::try_new(alloc, bytes)?;

@@ -79,10 +79,6 @@ IsIndex-firsts (n ∷ shape) (AlongAxis run ∷ picks) are some =
 
 -- ---- the loops
 
-pub flat_map_on : {X Y : Type 0} (f : X → List Y) (xs : List X) (i : ℕ) (d : X) → i < length xs → flat_map f (take (i + 1) xs) ≡ flat_map f (take i xs) ++ f (get_or xs i d)
-flat_map_on f xs i d low =
-    ap (flat_map f) (take_more xs i d low) ∙ flat_map-append f (take i xs) (get_or xs i d ∷ []) ∙ ap (λ l. flat_map f (take i xs) ++ l) (append-nil (f (get_or xs i d)))
-
 pub lengths_on : (picks : List AxisPick) (i : ℕ) (d : AxisPick) → i < length picks → shape_of_picks (take (i + 1) picks) ≡ shape_of_picks (take i picks) ++ axis_of (pick_shown (get_or picks i d))
 lengths_on picks i d low =
     let pick = get_or picks i d in

@@ -14,22 +14,22 @@ whole c =
     let bytes = ap (λ n. n * c.args.width) (c.items.ensures.value ∙ sym (length-offsets c.args.layout.now)) in
     (omega (arith, ends, bytes, c.saturating_mul-bytes.ensures, c.len-len.ensures.len, c.len-len.ensures.small), omega (arith, ends, bytes, c.saturating_mul-bytes.ensures, c.len-len.ensures.len, c.len-len.ensures.small))
 
-pub stretch-whole-requires : goal.stretch-whole-requires
-stretch-whole-requires c = omega (arith, c.first_address.ensures, (whole (goal.at.stretch-whole-requires c).After-len-len).1, ap length c.bytes.ensures)
+pub part-whole-requires : goal.part-whole-requires
+part-whole-requires c = omega (arith, c.first_address.ensures, (whole (goal.at.part-whole-requires c).After-len-len).1, ap length c.bytes.ensures)
 
 pub returns-then-is_c-clause-items : goal.returns-then-is_c-clause-items
 returns-then-is_c-clause-items c =
     let os = offsets c.args.layout.now in
     let width = c.args.width in
     let long = (whole (goal.at.returns-then-is_c-clause-items c).After-len-len).0 in
-    let whole-is : c.stretch-whole.result.now ≡ item_at (first_address os) (length os * width) c.args.block.now =
-    c.stretch-whole.ensures.bytes ∙ (λ i. item_at (c.first_address.ensures i) (long i) (c.bytes.ensures i)) in
+    let whole-is : c.part-whole.result.now ≡ item_at (first_address os) (length os * width) c.args.block.now =
+    c.part-whole.ensures.value ∙ (λ i. item_at (c.first_address.ensures i) (long i) (c.bytes.ensures i)) in
     IfOk-weaker c.try_copied.result _ _ (λ items is. ap (items_at (multiples width (length os)) width) (is ∙ whole-is) ∙ whole-items width os c.args.block.now (sym c.if-is_c.ensures)) c.try_copied.ensures
 
 pub returns-then-is_c-clause-len : goal.returns-then-is_c-clause-len
 returns-then-is_c-clause-len c =
     let long = (whole (goal.at.returns-then-is_c-clause-len c).After-len-len).0 in
-    IfOk-weaker c.try_copied.result _ _ (λ items is. ap length is ∙ c.stretch-whole.ensures.len ∙ long) c.try_copied.ensures
+    IfOk-weaker c.try_copied.result _ _ (λ items is. ap length is ∙ c.part-whole.ensures.len ∙ long) c.try_copied.ensures
 
 -- ---- run by run, or by columns
 

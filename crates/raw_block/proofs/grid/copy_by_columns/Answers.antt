@@ -1,13 +1,7 @@
-use Rattle.std.proofs.Common.{◌≡◌, ◌+◌, ◌*◌, suc, length, sym, subst, ◌∙◌, w64, arith}
-use Rattle.raw_block.proofs.Words.{to_z_pos, place, copied, EachWithin}
+use Rattle.std.proofs.Common.{◌≡◌, ◌+◌, ◌*◌, suc, sym, subst, ◌∙◌, w64, arith}
+use Rattle.raw_block.proofs.Words.{to_z_pos, copied}
 use Rattle.raw_block.proofs.Grids.{AreWritten, one_more, all_written}
 use Rattle.raw_block.proofs.grid.copy_by_columns.Goals as goal
-
-pub copy_arrays-requires-clause-src : goal.copy_arrays-requires-clause-src
-copy_arrays-requires-clause-src g c =
-    let N = g.row.N in let grid = c.args.grid in let j = c.loop-column.column in let len = length c.args.other.now in
-    subst (λ p. EachWithin len p c.column-from.result.step N grid.rows) (sym c.column-from.ensures.0)
-    (subst (λ z. EachWithin len (place grid.at grid.column_step j) z N grid.rows) (sym c.column-from.ensures.1) (c.requires.source.column j c.loop-column-test.true))
 
 pub loop-column-preserved : goal.loop-column-preserved
 loop-column-preserved g c =

@@ -1,15 +1,7 @@
-use Rattle.std.proofs.Common.{◌⊎◌, ◌+◌, ◌-◌, ◌<◌, ◌≤◌, max, min, inl, inr, length, arith}
-use Rattle.raw_block.proofs.Words.{place, place_within}
-use Rattle.raw_block.proofs.Exchanges.{first_within, beside-apart}
+use Rattle.std.proofs.Common.{◌⊎◌, ◌+◌, ◌-◌, ◌≤◌, max, min, inl, inr, length, arith}
+use Rattle.raw_block.proofs.Words.{place}
+use Rattle.raw_block.proofs.Exchanges.{beside-apart}
 use Rattle.raw_block.proofs.strided.swap_arrays.Goals as goal
-
-pub are_beside-requires : goal.are_beside-requires
-are_beside-requires g c =
-    let N = g.row.N in let n = c.args.n in let a = c.args.a in let b = c.args.b in let len = length c.args.bytes.now in
-    let some : 0 < n = omega arith in let end : n - 1 < n = omega arith in
-    let first_a = first_within len a.at a.step N n c.requires.a some in let first_b = first_within len b.at b.step N n c.requires.b some in
-    let last_a = place_within len a.at a.step N n (n - 1) c.requires.a end in let last_b = place_within len b.at b.step N n (n - 1) c.requires.b end in
-    (omega (arith, c.place-last_a.ensures), omega (arith, c.place-last_b.ensures))
 
 pub swap_each_apart-requires-clause-apart : goal.swap_each_apart-requires-clause-apart
 swap_each_apart-requires-clause-apart g c =
