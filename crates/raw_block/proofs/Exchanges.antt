@@ -1,6 +1,6 @@
 -- Disjoint items can be swapped at once, and so can the items of runs that do not overlap.
 use Rattle.std.proofs.Common.{◌≡◌, ℕ, suc, ◌+◌, ◌-◌, ◌*◌, ◌<◌, ◌≤◌, ◌⊎◌, inl, inr, max, min, List, length, get_or, sym, ap, ◌∙◌, arith, ℤ, pos, ◌≤ℤ◌}
-use Rattle.raw_block.proofs.Words.{mul-le-mul_right, zero-mul, cases_lt, ints, ext_get_or, negsuc, position, place, EachWithin, put, item_at, exchanged, length-item_at, length-put, get_or-put_before, get_or-put_after, item_at-put_same, not_negative, byte_of, length-exchanged, exchanged-outside, exchanged-first, exchanged-second, LieApart}
+use Rattle.raw_block.proofs.Words.{mul-le-mul_right, cases_lt, ints, ext_get_or, negsuc, position, place, EachWithin, put, item_at, exchanged, length-item_at, length-put, get_or-put_before, get_or-put_after, item_at-put_same, not_negative, byte_of, length-exchanged, exchanged-outside, exchanged-first, exchanged-second, LieApart}
 
 -- ---- two disjoint items
 
@@ -71,10 +71,6 @@ module _ (a b width : ℕ) (bytes : List ℕ) (in_a : a + width ≤ length bytes
       ])
 
 -- ---- items at equal steps
-
-pub first_within : (len at : ℕ) (step : ℤ) (width n : ℕ) → EachWithin len at step width n → 0 < n → at + width ≤ len
-first_within len at (pos s) width n each some = let here = (each.each 0 some).1 in let none = zero-mul s in omega (arith, ints)
-first_within len at (negsuc s) width n each some = let here = (each.each 0 some).1 in let none = zero-mul (suc s) in omega (arith, ints)
 
 -- each item is between the first and the last
 between_ends : (at : ℕ) (step : ℤ) (last k : ℕ) → k ≤ last → pos 0 ≤ℤ position at step k → pos 0 ≤ℤ position at step last → (min at (place at step last) ≤ place at step k) × (place at step k ≤ max at (place at step last))

@@ -1,6 +1,6 @@
 -- Adjacent items, whose bytes are written as one range.
 use Rattle.std.proofs.Common.{◌≡◌, ℕ, zero, suc, ◌+◌, ◌-◌, ◌*◌, ◌<◌, ◌≤◌, List, [], ◌++◌, length, take, drop, get_or, inr, refl, sym, ap, ◌∙◌, subst, arith, append_assoc, length-append, length-take, ℤ, pos}
-use Rattle.raw_block.proofs.Words.{suc-mul, mul-suc, mul-zero, mul-le-mul_left, take-add, drop-append-add, take-append-drop, drop-drop, drop-take, take-take, first_chunks, place, EachWithin, put, item_at, copied, filled, traded, joined, joined-same, place_within, length-item_at, item_at-put_apart, item_of_chunks}
+use Rattle.raw_block.proofs.Words.{suc-mul, mul-suc, mul-zero, mul-le-mul_left, take-add, drop-append-add, take-append-drop, drop-drop, drop-take, take-take, first_chunks, place, EachWithin, put, item_at, copied, filled, traded, place_within, length-item_at, item_at-put_apart, item_of_chunks}
 use Rattle.std.proofs.lemmas.List.{take_at}
 
 -- all of the items lie within `len` bytes
@@ -85,9 +85,6 @@ item_of_run width at n m k bytes run is enough lt =
 -- copies of one item
 same_place : (at k : ℕ) → place at (pos 0) k ≡ at
 same_place at k = let none : k * 0 ≡ 0 = mul-zero k in omega (arith, none)
-
-pub joined-one : (item : List ℕ) (at : ℕ) (step : ℤ) (width n : ℕ) (other : List ℕ) → item ≡ item_at at width other → step ≡ pos 0 → joined (λ _. item) n ≡ joined (λ k. item_at (place at step k) width other) n
-joined-one item at step width n other is none = joined-same (λ _. item) (λ k. item_at (place at step k) width other) n (λ k _. is ∙ ap (λ p. item_at p width other) (sym (same_place at k) ∙ ap (λ s. place at s k) (sym none)))
 
 pub copied-one : (dst : ℕ) (step : ℤ) (other : List ℕ) (src width n : ℕ) (bytes : List ℕ) → filled dst step (item_at src width other) n bytes ≡ copied dst step other src (pos 0) width n bytes
 copied-one dst step other src width zero bytes = refl

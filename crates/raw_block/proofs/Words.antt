@@ -8,9 +8,9 @@ pub use Rattle.raw_block.specs.Bytes.{EachWithin, Grid, GridWithin, copied, copi
 pub use Rattle.raw_block.specs.BytesLaws.{byte_of, fewer, first_position, get_or-put_after, get_or-put_before, item_at-put_apart, item_at-put_same, item_of_chunks, length-chunks, length-item_at, length-put, not_negative, place_within, position-add}
 pub use Rattle.raw_block.specs.ExchangeLaws.{exchanged-first, exchanged-outside, exchanged-second, last_or_before, length-exchanged}
 pub use Rattle.raw_block.specs.JoinedLaws.{all_joined, joined-add, joined-same, joined_run}
-pub use Rattle.raw_block.specs.NumberRuns.{AreArrays, SameBeside, adjacent_numbers, signed_number, signed_numbers, with_run}
+pub use Rattle.raw_block.specs.NumberRuns.{AreArrays, SameBeside, adjacent_numbers, signed_numbers, with_run}
 pub use Rattle.raw_block.specs.Ownership.{bytes_lent, bytes_own, deed_owns, unwritten, words}
-pub use Rattle.raw_block.specs.Words.{Lft, Ptr, Ty, add-mul, block_ptr, bytes, bytes_low_first, drop-append_seam, drop-drop, elements_shared, ext_get_or, ffalse, first_chunks, flat_map, flt, froom, fsep, ftrue, full_share, fwand, ints, mul-le-mul_right, mul-suc, negsuc, null_ptr, refill, said, suc-mul, take-add, take-append_seam, twos_complement, ty_array, ty_int, zero-mul}
+pub use Rattle.raw_block.specs.Words.{Lft, Ptr, Ty, add-mul, block_ptr, bytes, bytes_low_first, drop-append_seam, drop-drop, elements_shared, ext_get_or, ffalse, first_chunks, flat_map, flt, froom, fsep, ftrue, full_share, fwand, ints, mul-le-mul_right, mul-suc, negsuc, null_ptr, refill, said, suc-mul, take-add, take-append_seam, ty_array, ty_int}
 pub use Rattle.raw_block.specs.contracts.base.Bytes.{the_row as R, the_type}
 pub use Rattle.raw_block.specs.contracts.base.allocate.{clauses, ended}
 pub use Rattle.raw_block.specs.contracts.base.allocate.Key.{name as #self}
@@ -24,7 +24,7 @@ pub use Rattle.std.proofs.Math.Nat.{add-mod-mod, add-mul-mod_self_right, mod-eq_
 pub use Rattle.std.proofs.Math.Seq.{drop-append-add}
 pub use Rattle.std.proofs.lemmas.Bool.{cases_lt}
 pub use Rattle.std.proofs.lemmas.Int.{to_z-of_z, to_z_pos}
-pub use Rattle.std.proofs.lemmas.List.{drop-take, get_or-map, length-map, take-append-drop, take-take}
+pub use Rattle.std.proofs.lemmas.List.{drop-take, take-append-drop, take-take}
 pub use Rattle.std.proofs.lemmas.List.Concat.{flat_map-cons}
 pub use Rattle.std.proofs.raw_atomic.Walks.{proved, proved_at}
 pub use Rattle.std_alloc.proofs.RcSteps.{word, word-Good}
