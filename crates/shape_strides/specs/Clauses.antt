@@ -1,6 +1,6 @@
 -- What the contracts of this crate cite: its own definitions, and names from std and from the crates below.
 pub use Rattle.shape_strides.specs.AddressOrders.{IsInOrder}
-pub use Rattle.shape_strides.specs.Addresses.{LieWithin, natural}
+pub use Rattle.shape_strides.specs.Addresses.{natural}
 pub use Rattle.shape_strides.specs.Contiguity.{first_address, fortran_order, is_c_contiguous, is_f_contiguous, printed_strides}
 pub use Rattle.shape_strides.specs.Indexes.{count}
 pub use Rattle.shape_strides.specs.Joined.{all_joined, join_outside, leads_over, strided_axes}

@@ -65,8 +65,5 @@ loop-axis-preserved c = stands_before (turns_at c.requires.axes c.requires.index
 pub returns-clause-index : goal.returns-clause-index
 returns-clause-index c = (over c.loop-axis-test.false c.requires.index c.loop-axis.invariant).0
 
-pub returns-clause-rank : goal.returns-clause-rank
-returns-clause-rank c = λ more. absurd (omega (arith, (over c.loop-axis-test.false c.requires.index c.loop-axis.invariant).1))
-
 pub returns-clause-offset : goal.returns-clause-offset
 returns-clause-offset c = (over c.loop-axis-test.false c.requires.index c.loop-axis.invariant).2

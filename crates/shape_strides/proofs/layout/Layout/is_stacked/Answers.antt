@@ -4,9 +4,6 @@ use Rattle.shape_strides.proofs.StackLaws.{CanStack-from_tests, tests_from_CanSt
 use Rattle.shape_strides.proofs.StackedLaws.{IsNested-stacked}
 use Rattle.shape_strides.proofs.layout.Layout.is_stacked.Goals as goal
 
-pub returns-then-items-eq0-clause-value : goal.returns-then-items-eq0-clause-value
-returns-then-items-eq0-clause-value c = (λ _ some. absurd (omega (arith, c.items.ensures.value)), λ _. refl)
-
 pub returns-then-below-step-clause-value : goal.returns-then-below-step-clause-value
 returns-then-below-step-clause-value c =
     let l = c.args.self.now in
