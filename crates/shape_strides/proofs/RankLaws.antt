@@ -1,6 +1,6 @@
 -- Finding the index with a rank, number by number from the last axis to the first.
-use Rattle.std.proofs.Common.{◌≡◌, ℕ, zero, suc, ◌+◌, ◌*◌, ◌/◌, ◌%◌, ◌<◌, ◌≤◌, List, [], ◌∷◌, length, get_or, set, take, drop, sym, ap, ◌∙◌, arith, add-mul, take_all, div-add-mod', mod-lt, mul_assoc}
-use Rattle.shape_strides.proofs.Words.{drop_more, drop_all, drop-set, take_more, length-set, div_below, count, rank, IsIndex, factors_pos, count-append}
+use Rattle.std.proofs.Common.{◌≡◌, ℕ, ◌+◌, ◌*◌, ◌/◌, ◌%◌, ◌<◌, ◌≤◌, List, [], ◌∷◌, length, get_or, set, take, drop, sym, ap, ◌∙◌, arith, add-mul, div-add-mod', mod-lt, mul_assoc}
+use Rattle.shape_strides.proofs.Words.{drop_more, drop-set, take_more, length-set, div_below, count, rank, IsIndex, factors_pos, count-append}
 
 -- The numbers of the axes from `axis` on are found, and `left` is the rank along the axes before it.
 pub record IsFound (shape index : List ℕ) (at left axis : ℕ) : Type 0 where
@@ -9,19 +9,6 @@ pub record IsFound (shape index : List ℕ) (at left axis : ℕ) : Type 0 where
   pub later : IsIndex (drop axis shape) (drop axis index)
   pub low : left < count (take axis shape)
   pub is : left * count (drop axis shape) + rank (drop axis shape) (drop axis index) ≡ at
-
-pub found_none : (shape index : List ℕ) (at : ℕ) → length index ≡ length shape → at < count shape → IsFound shape index at at (length shape)
-found_none shape index at size low =
-    let none : drop (length shape) shape ≡ [] = drop_all (length shape) shape (omega arith) in
-    let none' : drop (length shape) index ≡ [] = drop_all (length shape) index (omega arith) in
-    let all : take (length shape) shape ≡ shape = take_all (length shape) shape (omega arith) in
-    record {
-      within = omega arith;
-      size = size;
-      later = rw (none, none') tt;
-      low = rw all low;
-      is = rw none (omega arith);
-    }
 
 count-front : (shape : List ℕ) (axis : ℕ) → axis < length shape → count (take (axis + 1) shape) ≡ count (take axis shape) * get_or shape axis 0
 count-front shape axis below =
@@ -57,13 +44,3 @@ found_more shape index at left axis below found =
       low = div_below left n (count (take axis shape)) some (omega (arith, found.low, count-front shape axis below));
       is = rw (here, there) (regroup (left / n) (left % n) n (count (drop (axis + 1) shape)) left (div-add-mod' left n) (rank (drop (axis + 1) shape) (drop (axis + 1) index)) ∙ found.is);
     }
-
--- All numbers are found.
-pub found_all : (shape index : List ℕ) (at left axis : ℕ) → axis ≡ 0 → IsFound shape index at left axis → IsIndex shape index × (rank shape index ≡ at)
-found_all shape index at left axis none found =
-    let f : IsFound shape index at left 0 = rw none at found in
-    (f.later, only left (count shape) (rank shape index) at f.low f.is)
-  where
-    only : (l c r a : ℕ) → l < 1 → l * c + r ≡ a → r ≡ a
-    only zero c r a low is = omega arith
-    only (suc l) c r a low is = absurd (omega arith)
