@@ -16,7 +16,7 @@ pub use Rattle.std.specs.Int.{div_ceil, w128}
 pub use Rattle.std.specs.List.{AllByRecursion}
 unfoldable pub use Rattle.std.specs.List.{IsDistinct}
 pub use Rattle.std.specs.Result.{is_ok}
-pub use Rattle.view_ops.specs.Basics.{Pick, Placed, are_on_axes, axes_taken, axis_of, has_step, is_on_axis, picked_index, picked_shape, picks, picks_of, placed, takes_axis, whole, width}
+pub use Rattle.view_ops.specs.Basics.{are_on_axes, axes_taken, axis_of, has_step, is_on_axis, picked_index, picked_shape, picks, picks_of, placed, takes_axis, whole, width}
 unfoldable pub use Rattle.view_ops.specs.Basics.{basic, picked_view, shape_picked}
 pub use Rattle.view_ops.specs.FieldViews.{GivesField}
 pub use Rattle.view_ops.specs.PickLaws.{first_number, length-run, number_at}
