@@ -28,17 +28,6 @@ fn can_stretch(lengths: &[usize], target: &[usize]) -> bool
     true
 }
 
-/// `count` strides of 0.
-fn zeros(alloc: Global, count: usize) -> Result<Strides, AllocError>
-    ensures { IfOk result (λ s. s ≡ replicate count (pos 0)) }
-{
-    let mut strides = Strides::new(alloc);
-    for _ in 0..count {
-        strides.push(0)?;
-    }
-    Ok(strides)
-}
-
 /// The stride of an axis, or 0 if it has one item.
 fn kept_stride(lengths: &[usize], strides: &[isize], axis: usize) -> isize
     requires axis { axis < length lengths.now }
@@ -61,7 +50,7 @@ fn stretched_strides(alloc: Global, layout: &Layout, target: &Shape) -> Result<S
     let lengths = layout.shape.as_slice();
     let strides = layout.strides.as_slice();
     let more = target.rank() - lengths.len();
-    let mut made = zeros(alloc, more)?;
+    let mut made = Strides::zeros(alloc, more)?;
     for axis in 0..lengths.len() {
         made.push(kept_stride(lengths, strides, axis))?;
     }
