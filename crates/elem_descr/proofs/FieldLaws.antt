@@ -1,6 +1,6 @@
 -- The fields of a record and their leaves, one after another.
 use Rattle.std.proofs.Common.{◌≡◌, ◌≤◌, ◌<◌, ◌+◌, ℕ, zero, suc, List, [], ◌∷◌, ◌++◌, length, map, take, drop, get_or, IfSome, slice_get, refl, sym, ap, ◌∙◌, arith}
-use Rattle.elem_descr.proofs.Words.{length-map, get_or_default, take-append_seam, drop-append-add, Descr, ScalarDescr, RecordDescr, Scalar, Field, Leaf, size, Structure, IsLegal, InOrder, fields_of, listed, before, leaf_count, IsRecord, item_size, leaves_of, leaves_from, leaves_in, fields, no_field, field_at, no_leaf, moved_leaf, LeavesInOrder, AreInOrder, entry_within, leaf_within, leaves_in_order, length-leaves_from, leaf_count-before, leaves_from-before, field_within, listed-fields_of, some_leaves}
+use Rattle.elem_descr.proofs.Words.{length-map, get_or_default, take-append_seam, drop-append-add, Descr, ScalarDescr, RecordDescr, Scalar, Field, Leaf, size, Fields, Structure, IsLegal, InOrder, field_of, fields_of, listed, before, leaf_count, IsRecord, item_size, leaves_of, leaves_from, leaves_in, fields, no_field, field_at, no_leaf, moved_leaf, LeavesInOrder, AreInOrder, entry_within, leaf_within, leaves_in_order, length-leaves_from, leaf_count-before, leaves_from-before, field_within, listed-fields_of, some_leaves}
 
 -- If leaves are in order from `from` on, each of them begins at `from` or later.
 begins_after : (from : ℕ) (leaves : List Leaf) (bytes k : ℕ) (d : Leaf) → AreInOrder from leaves bytes → k < length leaves → from ≤ (get_or leaves k d).at
@@ -43,13 +43,13 @@ record_apart descr structure is legal = rw is (in_order_apart (RecordDescr struc
 
 -- ---- the list of the fields
 
+pub fields_of-before : (name : List ℕ) (at : ℕ) (descr : Descr) (rest : Fields) → fields_of (before name at descr rest) ≡ field_of name at descr ∷ fields_of rest
+fields_of-before name at (ScalarDescr scalar) rest = refl
+fields_of-before name at (RecordDescr structure) rest = refl
+
 pub fields_of-listed : (fields : List Field) → fields_of (listed fields) ≡ fields
 fields_of-listed [] = refl
-fields_of-listed (field ∷ fields) = one field.name field.at field.descr fields (fields_of-listed fields)
-  where
-    one : (name : List ℕ) (at : ℕ) (descr : Descr) (fields : List Field) → fields_of (listed fields) ≡ fields → fields_of (before name at descr (listed fields)) ≡ record { name = name; at = at; descr = descr } ∷ fields
-    one name at (ScalarDescr scalar) fields is = ap (λ (later : List Field). record { name = name; at = at; descr = ScalarDescr scalar } ∷ later) is
-    one name at (RecordDescr structure) fields is = ap (λ (later : List Field). record { name = name; at = at; descr = RecordDescr structure } ∷ later) is
+fields_of-listed (field ∷ fields) = fields_of-before field.name field.at field.descr (listed fields) ∙ ap (λ (later : List Field). field ∷ later) (fields_of-listed fields)
 
 pub leaves_in-listed : (fields : List Field) → leaves_in fields ≡ leaf_count (listed fields)
 leaves_in-listed [] = refl

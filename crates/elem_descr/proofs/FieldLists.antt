@@ -51,7 +51,7 @@ within_split : (name : List ℕ) (at : ℕ) (descr : Descr) (rest other : Fields
 within_split name at (ScalarDescr scalar) rest other h more = more
 within_split name at (RecordDescr structure) rest other h more = (h.0, h.1, more)
 
-within_behind : (name : List ℕ) (at : ℕ) (descr : Descr) (rest : Fields) → AreNamedWithin (before name at descr rest) → AreNamedWithin rest
+pub within_behind : (name : List ℕ) (at : ℕ) (descr : Descr) (rest : Fields) → AreNamedWithin (before name at descr rest) → AreNamedWithin rest
 within_behind name at (ScalarDescr scalar) rest h = h
 within_behind name at (RecordDescr structure) rest h = h.2
 
@@ -65,7 +65,7 @@ abbrev depth_at : Descr → ℕ
 depth_at (ScalarDescr scalar) = 1
 depth_at (RecordDescr structure) = 1 + depth structure.fields
 
-depth-before : (name : List ℕ) (at : ℕ) (descr : Descr) (rest : Fields) → depth (before name at descr rest) ≡ max (depth_at descr) (depth rest)
+pub depth-before : (name : List ℕ) (at : ℕ) (descr : Descr) (rest : Fields) → depth (before name at descr rest) ≡ max (depth_at descr) (depth rest)
 depth-before name at (ScalarDescr scalar) rest = omega (arith, some_depth rest)
 depth-before name at (RecordDescr structure) rest = refl
 

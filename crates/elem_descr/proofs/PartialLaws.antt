@@ -1,6 +1,6 @@
 -- What stays true for a record being built when fields and padding are added to it.
-use Rattle.std.proofs.Common.{◌≡◌, ◌≤◌, ◌<◌, ◌+◌, ℕ, Bool, true, false, List, [], ◌∷◌, ◌++◌, length, refl, ap, IsTrue, arith, length-append, ◌||◌}
-use Rattle.elem_descr.proofs.Words.{IsDistinct, list_all, AllByRecursion, bytes_eq, list_all-append, Field, is_legal_name, IsLegal, listed, fields_of, item_size, leaves_of, Partial, IsShallow, empty, is_taken, IsPartial, names}
+use Rattle.std.proofs.Common.{◌≡◌, ◌≤◌, ◌<◌, ◌+◌, ℕ, Bool, true, false, List, [], ◌∷◌, ◌++◌, length, refl, IsTrue, arith, length-append, ◌||◌}
+use Rattle.elem_descr.proofs.Words.{IsDistinct, list_all, AllByRecursion, bytes_eq, list_all-append, map-append, Field, is_legal_name, IsLegal, listed, fields_of, item_size, leaves_of, Partial, IsShallow, empty, is_taken, IsPartial, names}
 use Rattle.elem_descr.proofs.FieldLaws.{fields_of-listed}
 use Rattle.elem_descr.proofs.FieldLists.{in_order_push, InOrder-ends, within_push, depth_push, leaf_count-push}
 
@@ -21,12 +21,8 @@ empty_partial levels leaves few small =
       few_leaves = small;
     }
 
-names-push : (fields : List Field) (field : Field) → names (fields ++ field ∷ []) ≡ names fields ++ field.name ∷ []
-names-push [] field = refl
-names-push (first ∷ fields) field = ap (λ (names : List (List ℕ)). first.name ∷ names) (names-push fields field)
-
 named_push : (fields : List Field) (field : Field) → IsTrue (list_all is_legal_name (names fields)) → IsTrue (is_legal_name field.name) → IsTrue (list_all is_legal_name (names (fields ++ field ∷ [])))
-named_push fields field all one = rw (names-push fields field, list_all-append is_legal_name (names fields) (field.name ∷ []), all, one) refl
+named_push fields field all one = rw (map-append (λ (each : Field). each.name) fields (field ∷ []), list_all-append is_legal_name (names fields) (field.name ∷ []), all, one) refl
 
 apart_push : (name : List ℕ) (fields : List Field) (field : Field) → AllByRecursion (λ other. bytes_eq name other ≡ false) (names fields) → bytes_eq name field.name ≡ false → AllByRecursion (λ other. bytes_eq name other ≡ false) (names (fields ++ field ∷ []))
 apart_push name [] field all one = (one, tt)

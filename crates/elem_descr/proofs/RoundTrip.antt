@@ -1,6 +1,9 @@
 -- A descriptor that is written as a format text is read back as the same descriptor.
-use Rattle.std.proofs.Common.{◌≡◌, ◌≤◌, ◌<◌, ◌+◌, ◌-◌, ℕ, zero, suc, true, false, List, [], ◌∷◌, ◌++◌, length, None, Result, Ok, refl, ap, subst, sym, ◌∙◌, arith, append_assoc, length-append, add-zero, decimal}
-use Rattle.elem_descr.proofs.Words.{is_ascii_digit, IsDistinct, list_all, bytes_eq, le-leb, and_parts, nat_tests, decimal_nonempty, append-nil, Refusal, Little, Big, Two, Four, Eight, Scalar, BoolScalar, Byte, Int, Bytes, Field, Descr, ScalarDescr, RecordDescr, Body, Mark, Aligned, Native, LittleMark, BigMark, ◌>>=◌, size, Fields, no_more, scalar_field, record_field, Structure, is_legal_name, IsLegal, AreNamedWithin, InOrder, fields_of, listed, names_of, depth, leaf_count, item_size, leaves_of, leaves_from, is_aligning, own_alignment, aligned_to, Partial, is_taken, widened, closed_size, closed_record, format, format_in_turns, member_at, held_at, Reader, is_named, marked, closing, scalar_in, pad_in, body_in, next_field, turn, members, record_within, nothing_follows, scalar_alone, record_alone, alone, written_mark, written_count, written_letter, written_scalar, written_pad, written_name, braced, written_fields, written_format, digits-decimal, packed, multiple_of_one, field_of, grown, name_ok, added_ok, names, not_taken, listed-fields_of, InOrder-within, some_depth, length-leaves_from}
+use Rattle.std.proofs.Common.{◌≡◌, ◌≤◌, ◌<◌, ◌+◌, ◌-◌, ℕ, zero, suc, true, false, List, [], ◌∷◌, ◌++◌, length, None, Result, Ok, Err, refl, ap, subst, sym, ◌∙◌, inl, inr, arith, append_assoc, length-append, add-zero, decimal}
+use Rattle.elem_descr.proofs.Words.{IsDistinct, list_all, bytes_eq, le-leb, and_parts, cases_Bool, decimal_nonempty, append-nil, Refusal, BadDescriptor, Little, Big, Scalar, BoolScalar, Byte, Int, Bytes, Field, Descr, ScalarDescr, RecordDescr, Body, Mark, Aligned, Native, LittleMark, BigMark, ◌>>=◌, size, Fields, no_more, scalar_field, record_field, Structure, is_one_of, is_legal_name, IsLegal, AreNamedWithin, InOrder, fields_of, listed, names_of, before, depth, leaf_count, item_size, leaves_of, leaves_from, is_aligning, own_alignment, aligned_to, Partial, is_taken, widened, closed_size, closed_record, format, format_in_turns, member_at, held_at, Later, Reader, is_named, marked, closing, scalar_in, pad_in, body_in, next_field, turn, members, record_within, nothing_follows, scalar_alone, record_alone, alone, written_mark, written_count, written_letter, written_scalar, written_pad, written_name, braced, written_fields, written_format, digits-decimal, packed, multiple_of_one, field_of, grown, name_ok, added_ok, names, not_taken, listed-fields_of, InOrder-before, InOrder-within, leaf_count-before, some_depth, length-leaves_from}
+use Rattle.elem_descr.proofs.FieldLaws.{fields_of-before}
+use Rattle.elem_descr.proofs.FieldLists.{within_behind, depth-before}
+use Rattle.elem_descr.proofs.PieceMembers.{one_of_one}
 use Rattle.elem_descr.proofs.Binds.{after_ok}
 use Rattle.elem_descr.proofs.SameFormat.{same_format}
 use Rattle.elem_descr.proofs.WrittenMembers.{mark_of, marked_digits, after_letter, reads_scalar, reads_pad, reads_name}
@@ -57,12 +60,24 @@ reads_gap within mark n levels leaves from done rest small unnamed =
 abbrev Reads : Reader → Mark → Partial → List ℕ → Body × List ℕ → Type 0
 Reads within mark p text r = (turns : ℕ) → length text ≤ turns → members within turns mark p text ≡ Ok r
 
+-- What is read as a member is no closing brace.
+no_brace : (within : Reader) (mark : Mark) (p : Partial) (text : List ℕ) (next : Later) → next_field within mark p text ≡ Ok next → closing text ≡ None
+unfolding next_field
+no_brace within mark p [] next field = refl
+no_brace within mark p (b ∷ rest) next field =
+    elim (cases_Bool (is_one_of (125 ∷ []) b)) [
+      | inl brac ↦
+          let refused : ◌≡◌ {A = Result Later Refusal} (Err BadDescriptor) (Ok next) = subst (λ c. next_field within mark p (c ∷ rest) ≡ Ok next) (one_of_one 125 b brac) field in
+          let never : ⊥ = cc in absurd never
+      | inr other ↦ rw other refl
+    ]
+
 -- a member and those after it
-reads_more : (within : Reader) (mark now later : Mark) (p next : Partial) (text unread rest : List ℕ) (r : Body × List ℕ) → marked mark text ≡ (now, unread) → closing unread ≡ None → next_field within now p unread ≡ Ok (next, later, rest) → length rest < length text → Reads within later next rest r → Reads within mark p text r
-reads_more within mark now later p next text unread rest r marks no_brace field shorter more zero l = absurd (omega arith)
-reads_more within mark now later p next text unread rest r marks no_brace field shorter more (suc turns) l =
+reads_more : (within : Reader) (mark now later : Mark) (p next : Partial) (text unread rest : List ℕ) (r : Body × List ℕ) → marked mark text ≡ (now, unread) → next_field within now p unread ≡ Ok (next, later, rest) → length rest < length text → Reads within later next rest r → Reads within mark p text r
+reads_more within mark now later p next text unread rest r marks field shorter more zero l = absurd (omega arith)
+reads_more within mark now later p next text unread rest r marks field shorter more (suc turns) l =
     ap (λ (m : Mark × List ℕ). turn within m.0 p (closing m.1) m.1 (λ q. members within turns q.1 q.0 q.2)) marks
-    ∙ ap (λ found. turn within now p found unread (λ q. members within turns q.1 q.0 q.2)) no_brace
+    ∙ ap (λ found. turn within now p found unread (λ q. members within turns q.1 q.0 q.2)) (no_brace within now p unread _ field)
     ∙ after_ok _ _ _ field ∙ more turns (omega arith)
 
 -- the closing brace
@@ -79,25 +94,6 @@ reads_end within mark levels leaves bytes done rest some small (suc turns) l =
     closed_packed LittleMark bytes done = refl
     closed_packed BigMark bytes done = refl
 
-no_brace_digits : (digits rest : List ℕ) → list_all is_ascii_digit digits ≡ true → 0 < length digits → closing (digits ++ rest) ≡ None
-no_brace_digits [] rest all some = absurd (omega arith)
-no_brace_digits (d ∷ digits) rest all some = no_brace_digit d (digits ++ rest) (and_parts (is_ascii_digit d) (list_all is_ascii_digit digits) all).0
-  where
-    no_brace_digit : (d : ℕ) (rest : List ℕ) → is_ascii_digit d ≡ true → closing (d ∷ rest) ≡ None
-    no_brace_digit d rest e = grind (arith, nat_tests)
-
-no_brace_scalar : (scalar : Scalar) (rest : List ℕ) → 1 ≤ size scalar → size scalar ≤ 65536 → closing (written_count scalar ++ (written_letter scalar ++ rest)) ≡ None
-no_brace_scalar BoolScalar rest some small = refl
-no_brace_scalar (Byte true) rest some small = refl
-no_brace_scalar (Byte false) rest some small = refl
-no_brace_scalar (Int true Two order) rest some small = refl
-no_brace_scalar (Int true Four order) rest some small = refl
-no_brace_scalar (Int true Eight order) rest some small = refl
-no_brace_scalar (Int false Two order) rest some small = refl
-no_brace_scalar (Int false Four order) rest some small = refl
-no_brace_scalar (Int false Eight order) rest some small = refl
-no_brace_scalar (Bytes n) rest some small = no_brace_digits (decimal n) (115 ∷ rest) (digits-decimal n (omega arith)) (decimal_nonempty n (omega arith))
-
 -- padding, if there is any
 reads_padding : (within : Reader) (gap levels leaves from : ℕ) (mark : Mark) (done : List Field) (rest : List ℕ) (r : Body × List ℕ) → from + gap ≤ 65536 → is_named rest ≡ false → Reads within mark (packed levels leaves (from + gap) done) rest r → Reads within mark (packed levels leaves from done) (written_pad gap ++ rest) r
 reads_padding within zero levels leaves from mark done rest r small unnamed more = rw (add-zero from) at more
@@ -107,7 +103,7 @@ reads_padding within (suc n) levels leaves from mark done rest r small unnamed m
     let text : written_pad (suc n) ++ rest ≡ decimal (suc n) ++ 120 ∷ rest = append_assoc (decimal (suc n)) (120 ∷ []) rest in
     rw text
     (reads_more within mark mark mark (packed levels leaves from done) (packed levels leaves (from + suc n) done) (decimal (suc n) ++ 120 ∷ rest) (decimal (suc n) ++ 120 ∷ rest) rest r (marked_digits mark (decimal (suc n)) (120 ∷ rest) digits some)
-    (no_brace_digits (decimal (suc n)) (120 ∷ rest) digits some) (reads_gap within mark (suc n) levels leaves from done rest small unnamed) (omega (arith, length-append (decimal (suc n)) (120 ∷ rest))) more)
+    (reads_gap within mark (suc n) levels leaves from done rest small unnamed) (omega (arith, length-append (decimal (suc n)) (120 ∷ rest))) more)
 
 shorter : (a b c name rest : List ℕ) → length rest < length (a ++ (b ++ (c ++ (58 ∷ (name ++ 58 ∷ rest)))))
 shorter a b c name rest = simp length-append (omega arith)
@@ -119,7 +115,7 @@ reads_one within mark levels leaves from done name scalar rest r may more =
     let text : written_scalar scalar ++ (written_name name ++ rest) ≡ written_mark scalar ++ (written_count scalar ++ (written_letter scalar ++ tail)) = simp append_assoc in
     rw text
     (reads_more within mark (mark_of scalar) (mark_of scalar) (packed levels leaves from done) (grown levels leaves from done name (ScalarDescr scalar)) (written_mark scalar ++ (written_count scalar ++ (written_letter scalar ++ tail))) (written_count scalar ++ (written_letter scalar ++ tail)) rest r (after_letter mark scalar tail may.some (omega (arith, may.small)))
-    (no_brace_scalar scalar tail may.some (omega (arith, may.small))) (reads_field within levels leaves from done name scalar rest may) (shorter (written_mark scalar) (written_count scalar) (written_letter scalar) name rest) more)
+    (reads_field within levels leaves from done name scalar rest may) (shorter (written_mark scalar) (written_count scalar) (written_letter scalar) name rest) more)
 
 name_text : (name rest : List ℕ) → written_name name ++ rest ≡ 58 ∷ (name ++ 58 ∷ rest)
 name_text name rest = ap (λ (t : List ℕ). 58 ∷ t) (append_assoc name (58 ∷ []) rest)
@@ -131,7 +127,7 @@ reads_within within mark later levels leaves from done name structure text rest 
     let joined : braced text ++ (written_name name ++ rest) ≡ 84 ∷ (123 ∷ inner) = ap (λ (t : List ℕ). 84 ∷ (123 ∷ t)) (append_assoc text (125 ∷ []) (written_name name ++ rest) ∙ ap (λ (t : List ℕ). text ++ 125 ∷ t) (name_text name rest)) in
     let Goal : List ℕ → Type 0 = λ t. Reads within mark (packed levels leaves from done) t r in
     subst Goal (sym joined)
-    (reads_more within mark mark later (packed levels leaves from done) (grown levels leaves from done name (RecordDescr structure)) (84 ∷ (123 ∷ inner)) (84 ∷ (123 ∷ inner)) rest r refl refl (reads_body within mark later levels leaves from done name structure inner rest may body) (longer text name rest) more)
+    (reads_more within mark mark later (packed levels leaves from done) (grown levels leaves from done name (RecordDescr structure)) (84 ∷ (123 ∷ inner)) (84 ∷ (123 ∷ inner)) rest r refl (reads_body within mark later levels leaves from done name structure inner rest may body) (longer text name rest) more)
   where
     longer : (text name rest : List ℕ) → length rest < length (84 ∷ (123 ∷ (text ++ 125 ∷ (58 ∷ (name ++ 58 ∷ rest)))))
     longer text name rest = simp length-append (omega arith)
@@ -169,38 +165,24 @@ next_grows : (levels leaves from bytes at : ℕ) (done : List Field) (name : Lis
 next_grows levels leaves from bytes at done name descr rest some small legal few distinct counted =
     record { some = some; small = small; legal = legal; new = not_taken done rest (field_of name at descr) distinct; few = omega arith; counted = counted }
 
-behind_scalar : (levels leaves from bytes at : ℕ) (done : List Field) (name : List ℕ) (scalar : Scalar) (rest : Fields) → MayRead levels leaves from bytes done (scalar_field name at scalar rest) → MayRead levels (leaves + 1) (at + size scalar) bytes (done ++ field_of name at (ScalarDescr scalar) ∷ []) rest
-behind_scalar levels leaves from bytes at done name scalar rest may =
-    let field = field_of name at (ScalarDescr scalar) in
+-- the fields after the first one
+behind_one : (levels leaves from bytes at : ℕ) (done : List Field) (name : List ℕ) (descr : Descr) (rest : Fields) → MayRead levels leaves from bytes done (before name at descr rest) → MayRead levels (leaves + length (leaves_of descr)) (at + item_size descr) bytes (done ++ field_of name at descr ∷ []) rest
+behind_one levels leaves from bytes at done name descr rest may =
+    let field = field_of name at descr in
+    let all = fields_of-before name at descr rest in
+    let count = ap length all in
     let many = length-append done (field ∷ []) in
     let join = append_assoc done (field ∷ []) (fields_of rest) in
     record {
-      order = may.order.2;
+      order = (InOrder-before from name at descr rest bytes may.order).2;
       small = may.small;
       some = omega (arith, many);
-      few = omega (arith, many, may.few);
-      legal = (and_parts (is_legal_name name) (list_all is_legal_name (names_of rest)) may.legal).1;
-      distinct = rw join may.distinct;
-      within = may.within;
-      shallow = may.shallow;
-      counted = omega (arith, may.counted);
-    }
-
-behind_record : (levels leaves from bytes at : ℕ) (done : List Field) (name : List ℕ) (size : ℕ) (inner rest : Fields) → MayRead levels leaves from bytes done (record_field name at size inner rest) → MayRead levels (leaves + length (leaves_from 0 inner)) (at + size) bytes (done ++ field_of name at (RecordDescr (record { size = size; fields = inner })) ∷ []) rest
-behind_record levels leaves from bytes at done name size inner rest may =
-    let field = field_of name at (RecordDescr (record { size = size; fields = inner })) in
-    let many = length-append done (field ∷ []) in
-    let join = append_assoc done (field ∷ []) (fields_of rest) in
-    record {
-      order = may.order.3;
-      small = may.small;
-      some = omega (arith, many);
-      few = omega (arith, many, may.few);
-      legal = (and_parts (is_legal_name name) (list_all is_legal_name (names_of rest)) may.legal).1;
-      distinct = rw join may.distinct;
-      within = may.within.2;
-      shallow = omega (arith, may.shallow);
-      counted = omega (arith, may.counted, length-leaves_from 0 inner);
+      few = omega (arith, many, count, may.few);
+      legal = (and_parts (is_legal_name name) (list_all is_legal_name (names_of rest)) (rw all at may.legal)).1;
+      distinct = rw join (rw all at may.distinct);
+      within = within_behind name at descr rest may.within;
+      shallow = omega (arith, may.shallow, depth-before name at descr rest);
+      counted = omega (arith, may.counted, leaf_count-before name at descr rest);
     }
 
 -- a record within
@@ -243,7 +225,7 @@ reads_fields (scalar_field name at scalar more) levels mark leaves from bytes do
     let tail = written_fields (at + size scalar) more bytes ++ 125 ∷ rest in
     let result : Body × List ℕ = (body_of bytes (done ++ field_of name at descr ∷ fields_of more) (mark_behind (mark_of scalar) more), rest) in
     let join = append_assoc done (field_of name at descr ∷ []) (fields_of more) in
-    let later = reads_fields more levels (mark_of scalar) (leaves + 1) (at + size scalar) bytes (done ++ field_of name at descr ∷ []) rest (behind_scalar levels leaves from bytes at done name scalar more may) in
+    let later = reads_fields more levels (mark_of scalar) (leaves + 1) (at + size scalar) bytes (done ++ field_of name at descr ∷ []) rest (behind_one levels leaves from bytes at done name descr more may) in
     let one = reads_one (record_within levels) mark levels leaves at done name scalar tail result grows (rw join at later) in
     let text : written_fields from (scalar_field name at scalar more) bytes ++ 125 ∷ rest ≡ written_pad (at - from) ++ (written_scalar scalar ++ (written_name name ++ tail)) = four (written_pad (at - from)) (written_scalar scalar) (written_name name) (written_fields (at + size scalar) more bytes) (125 ∷ rest) in
     let Goal : List ℕ → Type 0 = λ t. Reads (record_within levels) mark (packed levels leaves from done) t result in
@@ -260,7 +242,7 @@ reads_fields (record_field name at size inner more) (suc levels) mark leaves fro
     let behind = mark_behind mark inner in
     let result : Body × List ℕ = (body_of bytes (done ++ field_of name at descr ∷ fields_of more) (mark_behind behind more), rest) in
     let join = append_assoc done (field_of name at descr ∷ []) (fields_of more) in
-    let later = reads_fields more (suc levels) behind (leaves + length (leaves_from 0 inner)) (at + size) bytes (done ++ field_of name at descr ∷ []) rest (behind_record (suc levels) leaves from bytes at done name size inner more may) in
+    let later = reads_fields more (suc levels) behind (leaves + length (leaves_from 0 inner)) (at + size) bytes (done ++ field_of name at descr ∷ []) rest (behind_one (suc levels) leaves from bytes at done name descr more may) in
     let members = reads_fields inner levels mark leaves 0 size [] (58 ∷ (name ++ 58 ∷ tail)) (inside_record levels leaves from bytes at done name size inner more may) in
     let same = listed-fields_of inner in
     let body = reads_inner levels mark behind leaves (written_fields 0 inner size ++ 125 ∷ (58 ∷ (name ++ 58 ∷ tail))) (58 ∷ (name ++ 58 ∷ tail)) structure (rw same at members) in

@@ -1,58 +1,15 @@
 -- A text means the same by its pieces as by its members, read in turns.
-use Rattle.std.proofs.Common.{◌≡◌, ℕ, Bool, true, false, not, ◌&&◌, List, [], ◌∷◌, length, take, drop, inl, inr, Option, Some, None, Result, Ok, Err, cond, is_some, unwrap_or, nat_le, if◌then◌else◌, refl, sym, ap, subst, ◌∙◌, arith, find}
-use Rattle.elem_descr.proofs.Words.{is_ascii_digit, list_all, prefix_len, option_map, ok_or, cases_Bool, Refusal, BadDescriptor, DescriptorLeftOut, TooLarge, Scalar, Descr, ScalarDescr, RecordDescr, Body, Mark, Aligned, ◌>>=◌, check, is_one_of, size, Member, Value, Pad, Opened, is_empty, mark_meant, letters, number_letter, number_member, other_member, lettered, empty, Behind, nothing, between_colons, lone_colon, Piece, letter, is_colon, pieces, part_of, unnamed, Reading, begun, complete, beyond, at_begin, closed_in, behind_member, step, read_on, format, after, marked, is_named, is_opened, lettered_before, after_count, member_at, fitting, as_held, held_at, record_within, nothing_follows, scalar_alone, record_alone, alone, format_in_turns, bind_same}
+use Rattle.std.proofs.Common.{◌≡◌, ℕ, Bool, true, false, not, ◌&&◌, List, [], ◌∷◌, length, drop, inl, inr, Option, Some, None, Result, Ok, Err, nat_le, if◌then◌else◌, refl, sym, ap, subst, ◌∙◌, arith}
+use Rattle.elem_descr.proofs.Words.{list_all, ok_or, cases_Bool, Refusal, BadDescriptor, DescriptorLeftOut, TooLarge, Scalar, Descr, ScalarDescr, RecordDescr, Body, Mark, Aligned, ◌>>=◌, check, is_one_of, size, Member, Value, Pad, Opened, mark_meant, empty, Behind, nothing, between_colons, lone_colon, Piece, letter, is_colon, pieces, part_of, unnamed, Reading, begun, complete, beyond, at_begin, closed_in, behind_member, step, read_on, format, after, marked, is_named, member_at, fitting, as_held, held_at, record_within, nothing_follows, scalar_alone, record_alone, alone, format_in_turns, bind_same}
 use Rattle.elem_descr.proofs.Pieces.{name_end, behind_colon, behind, behind-colon, pieces-letter, some_piece}
 use Rattle.elem_descr.proofs.PieceMembers.{bind_bind, one_of_one, sign_cases, Then, front, met, meant, member_met}
-use Rattle.elem_descr.proofs.SameMembers.{marked_none, Unmarked, unmarked, sign_letter, marks_begun, marks_beyond, marks_read, behind_bare, unnamed_same, members_same}
+use Rattle.elem_descr.proofs.SameMembers.{marked_none, Unmarked, marks_behind, sign_letter, marks_begun, marks_beyond, marks_read, behind_bare, unnamed_same, members_same}
 
 -- ---- what follows a complete descriptor
 
--- two tables of letters have the same letters; under every mark, the same letters mean bools and integers
-abbrev SameKeys : List (List ℕ × Scalar) → List (List ℕ × Scalar) → Type 0
-SameKeys [] [] = Unit {0}
-SameKeys [] (y ∷ ys) = ⊥
-SameKeys (x ∷ xs) [] = ⊥
-SameKeys (x ∷ xs) (y ∷ ys) = (x.0 ≡ y.0) × SameKeys xs ys
-
-found_same : (b : ℕ) (xs ys : List (List ℕ × Scalar)) → SameKeys xs ys → is_some (option_map (λ entry. entry.1) (find (λ entry. is_one_of entry.0 b) xs)) ≡ is_some (option_map (λ entry. entry.1) (find (λ entry. is_one_of entry.0 b) ys))
-found_same b [] [] same = refl
-found_same b [] (y ∷ ys) same = absurd same
-found_same b (x ∷ xs) [] same = absurd same
-found_same b (x ∷ xs) (y ∷ ys) same = by_key (is_one_of x.0 b) (is_one_of y.0 b) (ap (λ key. is_one_of key b) same.0) (found_same b xs ys same.1)
-  where
-    by_key : (t u : Bool) → t ≡ u → is_some (option_map (λ entry. entry.1) (find (λ entry. is_one_of entry.0 b) xs)) ≡ is_some (option_map (λ entry. entry.1) (find (λ entry. is_one_of entry.0 b) ys)) → is_some (option_map (λ entry. entry.1) (cond t (Some x) (find (λ entry. is_one_of entry.0 b) xs))) ≡ is_some (option_map (λ entry. entry.1) (cond u (Some y) (find (λ entry. is_one_of entry.0 b) ys)))
-    by_key true true e later = refl
-    by_key true false e later = let never : ⊥ = cc in absurd never
-    by_key false true e later = let never : ⊥ = cc in absurd never
-    by_key false false e later = later
-
-numbers_same : (mark other : Mark) (b : ℕ) → is_some (number_letter mark b) ≡ is_some (number_letter other b)
-numbers_same mark other b = found_same b (letters mark) (letters other) (refl, (refl, (refl, (refl, (refl, (refl, (refl, (refl, (refl, (refl, (refl, tt)))))))))))
-
--- A second member is unsupported. If it is refused for an error of its own, the refusal is the same under every mark.
+-- A second member is unsupported, unless it is refused for an error of its own.
 abbrev left_out : {X : Type 0} → X → Result Descr Refusal
 left_out x = Err DescriptorLeftOut
-
-fault_same : (mark other : Mark) (digits : List ℕ) (b : ℕ) → (lettered mark digits b >>= left_out) ≡ (lettered other digits b >>= left_out)
-fault_same mark other digits b = by_numbers (number_letter mark b) (number_letter other b) (numbers_same mark other b)
-  where
-    by_empty : (t : Bool) (scalar next : Scalar) → ((if t then Ok (Value scalar) else Err DescriptorLeftOut) >>= left_out) ≡ ((if t then Ok (Value next) else Err DescriptorLeftOut) >>= left_out)
-    by_empty true scalar next = refl
-    by_empty false scalar next = refl
-
-    by_numbers : (x y : Option Scalar) → is_some x ≡ is_some y → (unwrap_or (option_map (number_member digits) x) (other_member digits b) >>= left_out) ≡ (unwrap_or (option_map (number_member digits) y) (other_member digits b) >>= left_out)
-    by_numbers (Some scalar) (Some next) e = by_empty (is_empty digits) scalar next
-    by_numbers (Some scalar) None e = let never : ⊥ = cc in absurd never
-    by_numbers None (Some next) e = let never : ⊥ = cc in absurd never
-    by_numbers None None e = refl
-
-count_same : (mark other : Mark) (digits tail : List ℕ) → (after_count mark digits tail >>= left_out) ≡ (after_count other digits tail >>= left_out)
-count_same mark other digits [] = refl
-count_same mark other digits (b ∷ rest) = bind_bind (lettered_before mark digits b rest) (λ it. Ok (it, rest)) left_out ∙ by_opening (is_one_of (84 ∷ []) b && is_opened rest) ∙ sym (bind_bind (lettered_before other digits b rest) (λ it. Ok (it, rest)) left_out)
-  where
-    by_opening : (t : Bool) → ((if t then (if is_empty digits then Ok Opened else Err DescriptorLeftOut) else lettered mark digits b) >>= left_out) ≡ ((if t then (if is_empty digits then Ok Opened else Err DescriptorLeftOut) else lettered other digits b) >>= left_out)
-    by_opening true = refl
-    by_opening false = fault_same mark other digits b
 
 -- how reading goes on with a piece that comes after a complete descriptor
 abbrev then_after : Reading → Then
@@ -84,15 +41,12 @@ aligned_unmarked mark (b ∷ rest) plain = by_blank (is_one_of (32 ∷ []) b) (m
     by_blank true o e = let never : ⊥ = cc in absurd never
     by_blank false o e = e
 
-beyond_same : (mark : Mark) (text : List ℕ) → read_on beyond (pieces text) ≡ (member_at (marked mark text).0 (marked mark text).1 >>= left_out)
+beyond_same : (mark : Mark) (text : List ℕ) → read_on beyond (pieces text) ≡ (member_at Aligned (marked mark text).1 >>= left_out)
 beyond_same mark text =
-    let now = (marked mark text).0 in
     let rest = (marked mark text).1 in
-    let n = prefix_len is_ascii_digit rest in
     marks_read (λ mark. beyond) marks_beyond mark text
     ∙ read_beyond (pieces rest)
-    ∙ after_plain beyond rest (aligned_unmarked now rest (unmarked mark text))
-    ∙ count_same Aligned now (take n rest) (drop n rest)
+    ∙ after_plain beyond rest (aligned_unmarked (marked mark text).0 rest (marks_behind mark text).0)
 
 -- a mark, which is not a blank
 mark_beyond : (descr : Descr) (next : Mark) (b : ℕ) (rest : List ℕ) → after Aligned b ≡ Some next → is_one_of (32 ∷ []) b ≡ false → read_on (complete descr) (pieces (b ∷ rest)) ≡ read_on beyond (pieces (b ∷ rest))
@@ -116,9 +70,9 @@ ended_blank : (rest : List ℕ) → is_named rest ≡ false → nothing_follows 
 unfolding nothing_follows
 ended_blank rest e = rw e refl
 
-ended_other : (b : ℕ) (rest : List ℕ) (descr : Descr) → is_colon b ≡ false → is_one_of (32 ∷ []) b ≡ false → (nothing_follows (b ∷ rest) >>= only descr) ≡ (member_at (marked Aligned (b ∷ rest)).0 (marked Aligned (b ∷ rest)).1 >>= left_out)
+ended_other : (b : ℕ) (rest : List ℕ) (descr : Descr) → is_colon b ≡ false → is_one_of (32 ∷ []) b ≡ false → (nothing_follows (b ∷ rest) >>= only descr) ≡ (member_at Aligned (marked Aligned (b ∷ rest)).1 >>= left_out)
 unfolding nothing_follows
-ended_other b rest descr colon other = by_tests (is_one_of (32 ∷ []) b) (is_colon b) other colon (list_all (is_one_of (32 ∷ [])) rest) (member_at (marked Aligned (b ∷ rest)).0 (marked Aligned (b ∷ rest)).1)
+ended_other b rest descr colon other = by_tests (is_one_of (32 ∷ []) b) (is_colon b) other colon (list_all (is_one_of (32 ∷ [])) rest) (member_at Aligned (marked Aligned (b ∷ rest)).1)
   where
     none_of : {X : Type 0} → X → Result (Unit {0}) Refusal
     none_of x = Err DescriptorLeftOut
@@ -168,8 +122,8 @@ ended_same descr (b ∷ rest) e = by_blank (ended_same descr rest)
         ∙ sym (ap (front Aligned (then_after (complete descr))) first.2)
         ∙ after_plain (complete descr) (b ∷ rest) unmarked_byte
 
-    by_mark : (o : Option Mark) → after Aligned b ≡ o → is_one_of (32 ∷ []) b ≡ false → read_on (complete descr) (pieces (b ∷ rest)) ≡ (member_at (marked Aligned (b ∷ rest)).0 (marked Aligned (b ∷ rest)).1 >>= left_out)
-    by_mark None is other = plain is ∙ ap (λ m. member_at m.0 m.1 >>= left_out) (sym (marked_none Aligned b rest is))
+    by_mark : (o : Option Mark) → after Aligned b ≡ o → is_one_of (32 ∷ []) b ≡ false → read_on (complete descr) (pieces (b ∷ rest)) ≡ (member_at Aligned (marked Aligned (b ∷ rest)).1 >>= left_out)
+    by_mark None is other = plain is ∙ ap (λ m. member_at Aligned m.1 >>= left_out) (sym (marked_none Aligned b rest is))
     by_mark (Some next) is other = mark_beyond descr next b rest is other ∙ beyond_same Aligned (b ∷ rest)
 
     by_blank : (is_named rest ≡ false → read_on (complete descr) (pieces rest) ≡ (nothing_follows rest >>= only descr)) → read_on (complete descr) (pieces (b ∷ rest)) ≡ (nothing_follows (b ∷ rest) >>= only descr)
@@ -243,4 +197,4 @@ text_same mark (b ∷ rest) plain =
     ]
 
 pub same_format : (text : List ℕ) → format text ≡ format_in_turns text
-same_format text = marks_read begun marks_begun Aligned text ∙ text_same (marked Aligned text).0 (marked Aligned text).1 (unmarked Aligned text)
+same_format text = marks_read begun marks_begun Aligned text ∙ text_same (marked Aligned text).0 (marked Aligned text).1 (marks_behind Aligned text).0

@@ -1,5 +1,5 @@
 -- The members of a record are the same by their pieces as when they are read in turns.
-use Rattle.std.proofs.Common.{◌≡◌, ◌≤◌, ◌<◌, ◌+◌, ℕ, zero, suc, Bool, true, false, not, ◌&&◌, List, [], ◌∷◌, length, take, drop, ◌++◌, codes, inl, inr, Option, Some, None, Result, Ok, Err, if◌then◌else◌, refl, sym, ap, subst, ◌∙◌, arith, nat_le, decimal}
+use Rattle.std.proofs.Common.{◌≡◌, ◌≤◌, ◌<◌, ◌+◌, ℕ, zero, suc, Bool, true, false, not, ◌&&◌, List, [], ◌∷◌, length, take, drop, ◌++◌, codes, inl, inr, Option, Some, None, Result, Ok, Err, IfOk, if◌then◌else◌, refl, sym, ap, subst, ◌∙◌, arith, nat_le, decimal}
 use Rattle.elem_descr.proofs.Words.{length-drop, is_ascii_digit, prefix_len, next_multiple_of, option_map, cases_Bool, leb-false, lt-leb, Refusal, BadDescriptor, DescriptorLeftOut, TooLarge, Scalar, Descr, ScalarDescr, RecordDescr, Body, Mark, ◌>>=◌, check, leaves_of, is_legal_name, is_one_of, size, Member, Value, Pad, Opened, own_alignment, aligned_to, Partial, empty, if_small, with_field, checked_name, added, widened, Behind, nothing, between_colons, lone_colon, Piece, letter, stray, is_colon, pieces, closed_body, part_of, called, next_name, with_scalar, with_pad, with_record, opened, unnamed, Reading, begun, within, beyond, closed_in, in_record, step, read_on, name_at, after, marked, is_named, is_opened, lettered_before, after_count, member_at, fitting, capped, as_held, named, Later, scalar_in, pad_in, body_in, taken_in, next_field, closing, turn, members, record_within, widened-capped, bind_same}
 use Rattle.elem_descr.proofs.Pieces.{name_end, behind_colon, behind, name_at-ended, ended_name, pieces-colon, behind-colon, behind-other, pieces-letter}
 use Rattle.elem_descr.proofs.PieceMembers.{bind_bind, one_of_one, sign_cases, Then, front, met, meant, member_met}
@@ -21,21 +21,17 @@ abbrev pub Unmarked : Mark → List ℕ → Type 0
 Unmarked mark [] = Unit {0}
 Unmarked mark (b ∷ rest) = after mark b ≡ None
 
-pub unmarked : (mark : Mark) (text : List ℕ) → Unmarked (marked mark text).0 (marked mark text).1
-unmarked mark [] = tt
-unmarked mark (b ∷ rest) = by_after (after mark b) refl (λ next. unmarked next rest)
+-- After its blanks and marks, a text does not begin with one of them, and is not longer.
+pub marks_behind : (mark : Mark) (text : List ℕ) → Unmarked (marked mark text).0 (marked mark text).1 × (length (marked mark text).1 ≤ length text)
+marks_behind mark [] = (tt, omega arith)
+marks_behind mark (b ∷ rest) = by_after (after mark b) refl (λ next. marks_behind next rest)
   where
-    by_after : (o : Option Mark) → after mark b ≡ o → ((next : Mark) → Unmarked (marked next rest).0 (marked next rest).1) → Unmarked (marked mark (b ∷ rest)).0 (marked mark (b ∷ rest)).1
-    by_after None e later = subst (λ m. Unmarked m.0 m.1) (sym (marked_none mark b rest e)) e
-    by_after (Some next) e later = subst (λ m. Unmarked m.0 m.1) (sym (marked_some mark next b rest e)) (later next)
+    Short : Mark × List ℕ → Type 0
+    Short m = Unmarked m.0 m.1 × (length m.1 ≤ suc (length rest))
 
-marked_shorter : (mark : Mark) (text : List ℕ) → length (marked mark text).1 ≤ length text
-marked_shorter mark [] = omega arith
-marked_shorter mark (b ∷ rest) = by_after (after mark b) refl (λ next. marked_shorter next rest)
-  where
-    by_after : (o : Option Mark) → after mark b ≡ o → ((next : Mark) → length (marked next rest).1 ≤ length rest) → length (marked mark (b ∷ rest)).1 ≤ suc (length rest)
-    by_after None e later = subst (λ m. length m.1 ≤ suc (length rest)) (sym (marked_none mark b rest e)) (omega arith)
-    by_after (Some next) e later = subst (λ m. length m.1 ≤ suc (length rest)) (sym (marked_some mark next b rest e)) (omega (arith, later next))
+    by_after : (o : Option Mark) → after mark b ≡ o → ((next : Mark) → Unmarked (marked next rest).0 (marked next rest).1 × (length (marked next rest).1 ≤ length rest)) → Short (marked mark (b ∷ rest))
+    by_after None e later = subst Short (sym (marked_none mark b rest e)) (e, omega arith)
+    by_after (Some next) e later = subst Short (sym (marked_some mark next b rest e)) ((later next).0, omega (arith, (later next).1))
 
 pub sign_letter : (mark next : Mark) (b : ℕ) (rest : List ℕ) → after mark b ≡ Some next → pieces (b ∷ rest) ≡ letter [] b (behind rest).0 ∷ pieces (behind rest).1
 sign_letter mark next b rest e =
@@ -246,25 +242,15 @@ pad_same mark p n rest = rw (widened-capped p n) (by_wider (widened p n))
 -- ---- the levels of a record stay the same
 
 abbrev Keeps : Partial → Result Partial Refusal → Type 0
-Keeps p made = (q : Partial) → made ≡ Ok q → q.levels ≡ p.levels
-
-abbrev made_or : Partial → Result Partial Refusal → Partial
-made_or p (Ok q) = q
-made_or p (Err e) = p
-
-keeps_ok : (p q : Partial) → q.levels ≡ p.levels → Keeps p (Ok q)
-keeps_ok p q same other is = ap (λ r. (made_or p r).levels) (sym is) ∙ same
-
-keeps_err : (p : Partial) (e : Refusal) → Keeps p (Err e)
-keeps_err p e q is = let never : ⊥ = cc in absurd never
+Keeps p made = IfOk made (λ q. q.levels ≡ p.levels)
 
 keeps_bind : {X : Type 0} (p : Partial) (r : Result X Refusal) (f : X → Result Partial Refusal) → ((x : X) → Keeps p (f x)) → Keeps p (r >>= f)
 keeps_bind p (Ok x) f keeps = keeps x
-keeps_bind p (Err e) f keeps = keeps_err p e
+keeps_bind p (Err e) f keeps = tt
 
 keeps_small : (p q : Partial) (t : Bool) → q.levels ≡ p.levels → Keeps p (if t then Ok q else Err TooLarge)
-keeps_small p q true same = keeps_ok p q same
-keeps_small p q false same = keeps_err p TooLarge
+keeps_small p q true same = same
+keeps_small p q false same = tt
 
 keeps_added : (p : Partial) (bytes : List ℕ) (alignment : ℕ) (descr : Descr) → Keeps p (added p bytes alignment descr)
 unfolding added
@@ -281,7 +267,7 @@ unfolding widened
 keeps_pad p n behind = by_wider (widened p n) (keeps_small p (record p { size = p.size + n }) (nat_le (p.size + n) 65536) refl)
   where
     by_wider : (r : Result Partial Refusal) → Keeps p r → Keeps p (r >>= λ q. unnamed behind >>= λ _. Ok q)
-    by_wider (Err e) keeps = keeps_err p e
+    by_wider (Err e) keeps = tt
     by_wider (Ok q) keeps = keeps_bind p (unnamed behind) (λ _. Ok q) (λ _. keeps)
 
 -- ---- the members of a record
@@ -305,7 +291,7 @@ others_same : (n : ℕ) → Same n → (levels turns : ℕ) (around : List (Mark
 others_same n same levels turns around text ends few enough goes mark p rest level less (Err e) keeps = refl
 others_same n same levels turns around text ends few enough goes mark p rest level less (Ok q) keeps =
     let left = behind_shorter rest in
-    same levels turns mark q around (behind rest).1 ends (omega arith) (omega arith) (keeps q refl ∙ level) (λ body later l. goes body later (omega arith))
+    same levels turns mark q around (behind rest).1 ends (omega arith) (omega arith) (keeps ∙ level) (λ body later l. goes body later (omega arith))
 
 -- how reading goes on after a piece within a record
 abbrev then_in : Mark → Partial → List (Mark × Partial) → Then
@@ -393,4 +379,4 @@ members_same (suc n) levels zero mark p around [] ends few enough level goes = n
 members_same (suc n) levels zero mark p around (b ∷ rest) ends few enough level goes = absurd (omega arith)
 members_same (suc n) levels (suc turns) mark p around text ends few enough level goes =
     marks_read (λ mark. within mark p around) (marks_within p around) mark text
-    ∙ turn_same n (members_same n) levels turns around text ends few enough goes (marked mark text).0 p (marked mark text).1 level (marked_shorter mark text) (unmarked mark text)
+    ∙ turn_same n (members_same n) levels turns around text ends few enough goes (marked mark text).0 p (marked mark text).1 level (marks_behind mark text).1 (marks_behind mark text).0

@@ -1,7 +1,7 @@
 -- Names from std, from the crates below and from `specs/`, which the proofs use.
 pub use Rattle.elem_descr.specs.BuildingLaws.{added_ok, field_of, grown, multiple_of_one, name_ok, names, not_taken, packed, record_type, widened-capped}
 pub use Rattle.elem_descr.specs.DescrTexts.{begins_with_digit}
-pub use Rattle.elem_descr.specs.DescriptorLaws.{InOrder-within, field_within, first_field, listed-fields_of, rest_at, some_depth, some_leaves, weight-one}
+pub use Rattle.elem_descr.specs.DescriptorLaws.{InOrder-before, InOrder-within, field_within, first_field, listed-fields_of, rest_at, some_depth, some_leaves, weight-one}
 pub use Rattle.elem_descr.specs.Descriptors.{AreNamedWithin, InOrder, IsLegal, before, depth, fields_of, leaf_count, listed, names_of}
 pub use Rattle.elem_descr.specs.DigitLaws.{digits-decimal, value_of-decimal}
 pub use Rattle.elem_descr.specs.Encoding.{decode, size}
@@ -22,7 +22,7 @@ pub use Rattle.elem_descr.specs.SpellingLaws.{one}
 pub use Rattle.elem_descr.specs.TypeStrings.{is_one_of, value_of}
 pub use Rattle.elem_descr.specs.Values.{LeafValue, number, text}
 pub use Rattle.elem_descr.specs.Weights.{weight}
-pub use Rattle.elem_descr.specs.Words.{AllByRecursion, append-nil, big_bytes, bytes_eq, cases_lt, decimal_digit, is_ascii_digit, le-leb, length-drop, length-map, list_all, little_bytes, lt-leb, min-eq_left, next_multiple_of, ok_or, option_map, prefix_len, take-append-drop, take-append_seam, take_all, w128}
+pub use Rattle.elem_descr.specs.Words.{AllByRecursion, append-nil, big_bytes, bytes_eq, cases_lt, decimal_digit, is_ascii_digit, le-leb, length-drop, length-map, list_all, little_bytes, lt-leb, map-append, min-eq_left, next_multiple_of, ok_or, option_map, prefix_len, take-append-drop, take-append_seam, take_all, w128}
 unfoldable pub use Rattle.elem_descr.specs.Words.{IsDistinct}
 pub use Rattle.elem_descr.specs.WrapLaws.{written_whole}
 pub use Rattle.elem_descr.specs.WrittenFormats.{braced, written_count, written_fields, written_format, written_letter, written_mark, written_name, written_pad, written_scalar}

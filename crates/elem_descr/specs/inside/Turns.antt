@@ -155,7 +155,7 @@ record_within (suc levels) mark leaves text =
 unfoldable pub nothing_follows : List ℕ → Result (Unit {0}) Refusal
 nothing_follows text = if list_all (is_one_of (codes " ")) text then Ok tt else do
   _ ← check (not (is_named text)) DescriptorLeftOut
-  _ ← (let m = marked Aligned text in held_at (member_at m.0 m.1))
+  _ ← held_at (member_at Aligned (marked Aligned text).1)
   Err DescriptorLeftOut
 
 -- A member that is the whole text is a scalar or a record.

@@ -27,8 +27,8 @@ fn ended(text: &[u8]) -> Result<(), Refusal>
     if is_named(text) {
         return Err(Refusal::DescriptorLeftOut);
     }
-    let (mark, rest) = marked(Mark::Aligned, text);
-    match member_at(mark, rest) {
+    let (_, rest) = marked(Mark::Aligned, text);
+    match member_at(Mark::Aligned, rest) {
         Ok(_) => Err(Refusal::DescriptorLeftOut),
         Err(refusal) => Err(refusal),
     }
@@ -42,9 +42,7 @@ fn scalar_alone(value: Option<Scalar>, rest: &[u8]) -> Result<Descr, Refusal>
     if is_named(rest) {
         return Err(Refusal::DescriptorLeftOut);
     }
-    let Some(scalar) = value else {
-        return Err(Refusal::TooLarge);
-    };
+    let scalar = value.ok_or(Refusal::TooLarge)?;
     ended(rest)?;
     Ok(Descr::Scalar(scalar))
 }

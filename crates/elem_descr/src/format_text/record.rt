@@ -78,9 +78,7 @@ fn field_at<'a>(
         Ok((Member::Value(value), rest)) => {
             let (name, rest) = named(alloc, builder.len(), rest)?;
             builder.check_name(name.as_slice())?;
-            let Some(scalar) = value else {
-                return Err(Refusal::TooLarge);
-            };
+            let scalar = value.ok_or(Refusal::TooLarge)?;
             let alignment = mark.aligned(own_alignment(&scalar));
             builder.add(name, alignment, Descr::Scalar(scalar))?;
             Ok((mark, rest))
