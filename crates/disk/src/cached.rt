@@ -9,9 +9,13 @@ use std::alloc::{AllocError, Global};
 /// What a call has done to a disk with a cache.
 #[derive(Drop)]
 pub enum Event {
-    /// A name has these bytes now, or was removed, and whether they are whole. If they are, a crash
-    /// leaves them or what was there before, and otherwise anything.
-    Changed(Vec<u8>, Option<Vec<u8>>, bool),
+    /// A name has these bytes now, or was removed. If they are whole, a crash leaves them or what
+    /// was there before, and otherwise anything.
+    Changed {
+        name: Vec<u8>,
+        bytes: Option<Vec<u8>>,
+        is_whole: bool,
+    },
     /// The bytes of the file with this name were synced.
     FileSynced(Vec<u8>),
     /// The names were synced.
@@ -39,7 +43,11 @@ fn latest<'a>(events: &'a [Event], name: &[u8]) -> Option<&'a Option<Vec<u8>>>
     let mut rest = events;
     while let [event, older @ ..] = rest {
         match event {
-            Event::Changed(other, bytes, _) if name == other.as_slice() => return Some(bytes),
+            Event::Changed {
+                name: other,
+                bytes,
+                ..
+            } if name == other.as_slice() => return Some(bytes),
             _ => {}
         }
         rest = older;
@@ -54,10 +62,14 @@ fn are_bytes_synced(events: &[Event], name: &[u8]) -> bool
     let mut rest = events;
     while let [event, older @ ..] = rest {
         match event {
-            Event::Changed(other, _, is_whole) if name == other.as_slice() => return *is_whole,
+            Event::Changed {
+                name: other,
+                is_whole,
+                ..
+            } if name == other.as_slice() => return *is_whole,
             Event::FileSynced(other) if name == other.as_slice() => return true,
             Event::Restarted => return true,
-            Event::Changed(..) | Event::FileSynced(_) | Event::NamesSynced => {}
+            Event::Changed { .. } | Event::FileSynced(_) | Event::NamesSynced => {}
         }
         rest = older;
     }
@@ -92,15 +104,16 @@ fn may_stand(events: &[Event], name: &[u8], left: &Option<Vec<u8>>) -> bool
     let mut rest = events;
     while let [event, older @ ..] = rest {
         match event {
-            Event::Changed(other, bytes, is_whole)
-                if name == other.as_slice() && (!*is_whole || is_same(left, bytes)) => {
-                return true;
-            }
+            Event::Changed {
+                name: other,
+                bytes,
+                is_whole,
+            } if name == other.as_slice() && (!*is_whole || is_same(left, bytes)) => return true,
             Event::NamesSynced if are_bytes_synced(older, name) => {
                 return is_found(older, name, left);
             }
             Event::Restarted => return is_found(older, name, left),
-            Event::Changed(..) | Event::FileSynced(_) | Event::NamesSynced => {}
+            Event::Changed { .. } | Event::FileSynced(_) | Event::NamesSynced => {}
         }
         rest = older;
     }
@@ -121,7 +134,12 @@ fn change(
         (cached_history events.old.items) (cached_history events.new.items) }
 {
     let name = Vec::from_slice(alloc, name)?;
-    events.insert(0, Event::Changed(name, bytes, is_whole))?;
+    let changed = Event::Changed {
+        name,
+        bytes,
+        is_whole,
+    };
+    events.insert(0, changed)?;
     Ok(())
 }
 
@@ -218,10 +236,12 @@ impl Disk for CachedMemDisk {
 
     ghost stays = { λ disk honest. found_may_stay disk.events.items };
 
+    #[tactic(auto, using(crate::proofs::Events::still_same))]
     fn has_file(&mut self, name: &[u8]) -> Result<bool, DiskFault> {
         Ok(self.look(name)?.is_some())
     }
 
+    #[tactic(auto, using(crate::proofs::Events::still_same))]
     fn open(&mut self, name: &[u8]) -> Result<(MemFile, u64), DiskFault> {
         let Some(bytes) = self.look(name)? else {
             return Err(failed(&mut self.failing.failures));
@@ -231,6 +251,7 @@ impl Disk for CachedMemDisk {
         Ok((MemFile { name, bytes, at: 0 }, len))
     }
 
+    #[tactic(auto, using(crate::proofs::Events::still_same))]
     fn read(&mut self, file: &mut MemFile, piece: &mut [u8]) -> Result<usize, DiskFault> {
         self.failing.count_call()?;
         Ok(file.take(piece))
@@ -256,6 +277,7 @@ impl Disk for CachedMemDisk {
         Ok(change(self.alloc, &mut self.events, &file.name, Some(all), false)?)
     }
 
+    #[tactic(auto, using(crate::proofs::Events::still_same))]
     fn sync(&mut self, file: &MemFile) -> Result<(), DiskFault> {
         self.failing.count_call()?;
         let name = Vec::from_slice(self.alloc, &file.name)?;
@@ -271,9 +293,18 @@ impl Disk for CachedMemDisk {
         let to = Vec::from_slice(self.alloc, to)?;
         let from = Vec::from_slice(self.alloc, from)?;
         self.events.reserve(2)?;
-        self.events
-            .insert(0, Event::Changed(to, Some(bytes), is_whole))?;
-        self.events.insert(0, Event::Changed(from, None, true))?;
+        let arrived = Event::Changed {
+            name: to,
+            bytes: Some(bytes),
+            is_whole,
+        };
+        let gone = Event::Changed {
+            name: from,
+            bytes: None,
+            is_whole: true,
+        };
+        self.events.insert(0, arrived)?;
+        self.events.insert(0, gone)?;
         Ok(())
     }
 
@@ -285,6 +316,7 @@ impl Disk for CachedMemDisk {
     }
 
     // Running out of memory is reported as a failure, since this call may not report anything else.
+    #[tactic(auto, using(crate::proofs::Events::still_same))]
     fn sync_names(&mut self) -> Result<(), DiskFault> {
         self.failing.count_call()?;
         if self.events.insert(0, Event::NamesSynced).is_err() {

@@ -5,12 +5,12 @@ use Rattle.disk.proofs.cached.latest.Goals as goal
 pub returns-in-Changed : goal.returns-in-Changed
 returns-in-Changed c =
     let same : c.args.name.now ≡ c.in-Changed.other.items = search rules in
-    sym c.loop-rest.invariant ∙ found_here c.loop-rest.rest.now c.event-item.result c.args.name.now c.in-Changed.other c.in-Changed.bytes c.in-Changed.field-2 c.in-len1-up.len_at_least c.event-item.is c.in-Changed.is same
+    sym c.loop-rest.invariant ∙ found_here c.loop-rest.rest.now c.event-item.result c.args.name.now c.in-Changed.other c.in-Changed.bytes c.in-Changed.is_whole c.in-len1-up.len_at_least c.event-item.is c.in-Changed.is same
 
 pub loop-rest-preserved-else-eq : goal.loop-rest-preserved-else-eq
 loop-rest-preserved-else-eq c =
     let far : c.args.name.now ≢ c.in-Changed.other.items = search rules in
-    found_later c.loop-rest.rest.now c.event-item.result c.args.name.now c.in-Changed.other c.in-Changed.bytes c.in-Changed.field-2 c.in-len1-up.len_at_least c.event-item.is c.in-Changed.is far ∙ c.loop-rest.invariant
+    found_later c.loop-rest.rest.now c.event-item.result c.args.name.now c.in-Changed.other c.in-Changed.bytes c.in-Changed.is_whole c.in-len1-up.len_at_least c.event-item.is c.in-Changed.is far ∙ c.loop-rest.invariant
 
 pub returns : goal.returns
 returns c = sym c.loop-rest.invariant ∙ found_nowhere c.loop-rest.rest.now c.args.name.now c.in_default.len_below
