@@ -1,5 +1,5 @@
 -- Appending items one after another.
-use Rattle.std.proofs.Common.{◌≡◌, inl, inr, ℕ, suc, ◌+◌, ◌-◌, ◌*◌, ◌^◌, ◌<◌, ◌≤◌, ◌&&◌, ◌||◌, not, true, false, Bool, pos, List, [], ◌∷◌, ◌++◌, length, get_or, take, drop, replicate, reverse, All, refl, sym, ap, subst, ◌∙◌, arith, append_assoc, zero-mul, suc-mul, length-append, ◌==◌, if◌then◌else◌}
+use Rattle.std.proofs.Common.{◌≡◌, inl, inr, ℕ, suc, ◌+◌, ◌*◌, ◌^◌, ◌<◌, ◌≤◌, ◌&&◌, ◌||◌, not, true, false, Bool, pos, List, [], ◌∷◌, ◌++◌, length, get_or, take, drop, replicate, reverse, All, refl, sym, ap, subst, ◌∙◌, arith, append_assoc, zero-mul, suc-mul, length-append, ◌==◌, if◌then◌else◌}
 use Rattle.npy_format.proofs.Words.{flat_map, Each, take-add, eqb-true, true≢false, cases_lt, flat_map-append, append-nil, drop-drop, length-map, get_or-map, get_or_past, length-reverse, All-head, All-tail, All-from_recursion, place, item_at, EachWithin, begins_within, Run, count, indexes, rank, length-indexes, rank-lt, get_or-indexes, index_at, rank-zeros, IsIndex-first, zero_filled, count-reverse, IsIndex-from_reverse, first_address, fortran_order, is_c_contiguous, is_f_contiguous, Layout, max_items, offsets, length-offsets, run_offsets, runs, first_address-entry, length-run_offsets, run_offsets-more, place-at, run-ends, length-fortran, reverse-replicate, gathered, addresses_in_file}
 
 -- ---- adjacent items
@@ -75,17 +75,16 @@ few-counts l few are =
 -- ---- one more item
 
 pub item_pushed : (len width : ℕ) (run : Run) (k : ℕ) (bytes file file' old : List ℕ) (at : ℕ) → EachWithin len run.offset run.step width run.count → k < run.count → at ≡ place run.offset run.step k
-    → file' ≡ file ++ take (at + width - at) (drop at bytes) → file ≡ old ++ gathered width bytes (run_offsets (record { offset = run.offset; count = k; step = run.step }))
+    → file' ≡ file ++ item_at at width bytes → file ≡ old ++ gathered width bytes (run_offsets (record { offset = run.offset; count = k; step = run.step }))
     → file' ≡ old ++ gathered width bytes (run_offsets (record { offset = run.offset; count = k + 1; step = run.step }))
 item_pushed len width run k bytes file file' old at within low is pushed so_far =
     let front = run_offsets (record { offset = run.offset; count = k; step = run.step }) in
     let item = λ (o : ℕ). item_at o width bytes in
     let here = place run.offset run.step k in
-    let wide : at + width - at ≡ width = omega arith in
     let more : suc k ≡ k + 1 = omega arith in
     let few : EachWithin len run.offset run.step width (suc k) = record { each = λ j below. within.each j (omega (arith, low, below)) } in
     pushed
-    ∙ (λ i. so_far i ++ take (wide i) (drop (is i) bytes))
+    ∙ (λ i. so_far i ++ item_at (is i) width bytes)
     ∙ append_assoc old (flat_map item front) (item here)
     ∙ ap (λ back. old ++ (flat_map item front ++ back)) (sym (append-nil (item here)))
     ∙ ap (λ back. old ++ back) (sym (flat_map-append item front (here ∷ [])))

@@ -1,11 +1,11 @@
 -- What a header says, pair by pair.
-use Rattle.std.proofs.Common.{◌≡◌, ◌≢◌, ◌≤◌, ◌<◌, ◌+◌, ℕ, Bool, true, false, List, [], ◌∷◌, ◌++◌, length, Option, Some, None, Result, Ok, Err, refl, ap, sym, subst, ◌∙◌, arith, codes, map, min, append_assoc, length-append, MatchOption, MatchResult, if◌then◌else◌}
-use Rattle.npy_format.proofs.Words.{ok_or, is_some, append-nil, length-map, map-append, Refusal, BadHeader, TooManyAxes, Descr, ◌>>=◌, Answers, bind_ok, max_items, shape_of, shape_of-many, shape_of-capped, Token, Literal, Pair, Row, all_listed_values, Round, Read, symbol_token_at, pair_in, entries_in, descr_in, is_key, value_under, truth_of, integers_of, lengths_of, dictionary_of, header_of, behind, behind_comma, behind_entry, behind_key, behind_entries, string_at, integer_at, is_string_token, HasPairs, HasValues, HasLengths, Stands, value_in}
+use Rattle.std.proofs.Common.{◌≡◌, ◌⊎◌, ⊎_elim, ◌≢◌, ◌≤◌, ◌<◌, ◌+◌, ℕ, Bool, true, false, List, [], ◌∷◌, ◌++◌, length, Option, Some, None, Result, Ok, Err, refl, ap, sym, subst, ◌∙◌, arith, map, min, take, inl, inr, append_assoc, length-append, length-take, MatchOption, MatchResult, if◌then◌else◌}
+use Rattle.npy_format.proofs.Words.{ok_or, is_some, append-nil, length-map, map-append, Refusal, BadHeader, OutOfMemory, ◌>>=◌, Answers, bind_ok, max_items, shape_of, shape_of-many, shape_of-capped, Token, Literal, Pair, Row, all_listed_values, Round, Read, symbol_token_at, pair_in, entries_in, is_key, value_under, integers_of, lengths_of, dictionary_of, behind, behind_comma, behind_entry, behind_key, behind_entries, string_at, integer_at, is_string_token, HasPairs, HasValues, Stands, shape_under, value_in, cases_lt, take-append-le, take_all}
 use Rattle.npy_format.proofs.GrammarLaws.{Shortens, symbol_shorter}
 use Rattle.npy_format.proofs.SkipLaws.{behind_ok}
 use Rattle.npy_format.proofs.PlaceLaws.{stand_open, stand_closed, same_read}
 use Rattle.npy_format.proofs.ValueLaws.{literals_of_listed}
-use Rattle.npy_format.proofs.StandLaws.{text_is, next_stands, is_read, no_integer, integer_stands, integer_front_is, lengths_next, lengths_end, no_44}
+use Rattle.npy_format.proofs.StandLaws.{text_is, next_stands, is_read, no_integer, integer_stands, integer_front_is, no_44}
 
 comma_shorter : (toks : List Token) → length (behind_comma toks) ≤ length toks
 comma_shorter toks = go (symbol_token_at 44 toks) refl
@@ -131,109 +131,89 @@ module _ (key : List ℕ) (whole : List Pair) (toks : List Token) (h : KeyLeft k
 
 -- ---- lengths
 
-pub record LengthsLeft (values : List Literal) (toks : List Token) : Type 0 where
+abbrev held_length : ℕ → ℕ
+held_length n = min n (max_items + 1)
+
+-- the lengths so far, of which the code holds at most 65, and the values that are left
+pub record LengthsLeft (values : List Literal) (axes : List ℕ) (toks : List Token) : Type 0 where
   pub left : List Literal
   pub stand : HasValues 41 toks left
   pub before : List ℕ
   pub same : integers_of values ≡ (integers_of left >>= λ ns. Ok (before ++ ns))
+  pub held : axes ≡ take 65 (map held_length before)
 
-module _ (values : List Literal) (toks : List Token) (h : LengthsLeft values toks) where
-  pub lengths_good : (end : List Token) → Some end ≡ symbol_token_at 41 toks → (found : List ℕ) × (integers_of values ≡ Ok found)
+shape_held : (axes before : List ℕ) → axes ≡ take 65 (map held_length before) → shape_of before ≡ shape_of axes
+shape_held axes before held =
+    let all = map held_length before in
+    let many = length-map before held_length in
+    elim (cases_lt 64 (length before)) [
+      | inl more ↦ shape_of-many before more ∙ sym (shape_of-many axes (omega (arith, more, many, ap (λ (l : List ℕ). length l) held, length-take 65 all)))
+      | inr few ↦ sym (ap shape_of (held ∙ take_all 65 all (omega (arith, few, many))) ∙ shape_of-capped (max_items + 1) before (omega arith))
+    ]
+
+module _ (values : List Literal) (axes : List ℕ) (toks : List Token) (h : LengthsLeft values axes toks) where
+  pub lengths_good : (end : List Token) → Some end ≡ symbol_token_at 41 toks → (integers_of values >>= λ ns. Ok (shape_of ns)) ≡ Ok (shape_of axes)
   lengths_good end ends =
-      let none = stand_closed (value_in) 41 toks h.left h.stand end ends in
-      (h.before ++ [], h.same ∙ ap (λ (l : List Literal). integers_of l >>= λ ns. Ok (h.before ++ ns)) none)
+      let none = stand_closed value_in 41 toks h.left h.stand end ends in
+      ap (λ (r : Result (List ℕ) Refusal). r >>= λ ns. Ok (shape_of ns)) (h.same ∙ ap (λ (l : List Literal). integers_of l >>= λ ns. Ok (h.before ++ ns)) none)
+      ∙ ap (λ r. Ok r) (ap shape_of (append-nil h.before) ∙ shape_held axes h.before h.held)
 
-  pub lengths_bad : None ≡ integer_at toks → None ≡ symbol_token_at 41 toks → integers_of values ≡ Err BadHeader
+  pub lengths_bad : None ≡ integer_at toks → None ≡ symbol_token_at 41 toks → (integers_of values >>= λ ns. Ok (shape_of ns)) ≡ Err BadHeader
   lengths_bad none open' =
       let next = stand_open value_in 41 toks h.left no_44 h.stand open' in
       let refused = no_integer toks next.first (record { rest = next.after; is = next.reads }) none next.others in
-      h.same ∙ ap (λ (r : Result (List ℕ) Refusal). r >>= λ ns. Ok (h.before ++ ns)) (ap integers_of next.is ∙ refused)
-
-  pub lengths_on : (found : ℕ × List Token) → Some found ≡ integer_at toks → LengthsLeft values (behind_comma found.1)
-  lengths_on found is =
-      let front = integer_front_is toks found is in
-      let open' : None ≡ symbol_token_at 41 toks = rw front refl in
-      let next = stand_open value_in 41 toks h.left no_44 h.stand open' in
-      let stands = integer_stands toks next.first (record { rest = next.after; is = next.reads }) found is in
-      record {
-        left = next.others;
-        stand = subst (λ (l : List Token). HasValues 41 (behind_comma l) next.others) stands.1 next.more;
-        before = h.before ++ found.0 ∷ [];
-        same = h.same
-            ∙ ap (λ (l : List Literal). integers_of l >>= λ ns. Ok (h.before ++ ns)) (next.is ∙ ap (λ (x : Literal). x ∷ next.others) stands.0)
-            ∙ pushed (integers_of next.others) h.before found.0;
-      }
-    where
-      pushed : (r : Result (List ℕ) Refusal) (before : List ℕ) (n : ℕ) → ((r >>= λ ns. Ok (n ∷ ns)) >>= λ ns. Ok (before ++ ns)) ≡ (r >>= λ ns. Ok ((before ++ n ∷ []) ++ ns))
-      pushed (Ok ns) before n = ap (λ (l : List ℕ). Ok l) (sym (append_assoc before (n ∷ []) ns))
-      pushed (Err e) before n = refl
-
-pub lengths_inside : (v : Literal) (values : List Literal) → v ≡ Row Round (all_listed_values values) → lengths_of v ≡ integers_of values
-lengths_inside v values is = ap lengths_of is ∙ ap integers_of (literals_of_listed values)
-
--- ---- the shape
-
--- the lengths so far, as the code holds them, followed by those of the rest
-pub record ShapeLeft (whole axes : List ℕ) (toks : List Token) : Type 0 where
-  pub left : List ℕ
-  pub stand : HasLengths toks left
-  pub before : List ℕ
-  pub held : axes ≡ map (λ n. min n (max_items + 1)) before
-  pub same : whole ≡ before ++ left
-
-module _ (whole axes : List ℕ) (toks : List Token) (h : ShapeLeft whole axes toks) where
-  pub shape_ends : None ≡ integer_at toks → shape_of whole ≡ shape_of axes
-  shape_ends none =
-      let all : whole ≡ h.before = h.same ∙ ap (λ (l : List ℕ). h.before ++ l) (lengths_end toks h.left h.stand none) ∙ append-nil h.before in
-      ap shape_of all ∙ sym (ap shape_of h.held ∙ shape_of-capped (max_items + 1) h.before (omega arith))
+      ap (λ (r : Result (List ℕ) Refusal). r >>= λ ns. Ok (shape_of ns)) (h.same ∙ ap (λ (r : Result (List ℕ) Refusal). r >>= λ ns. Ok (h.before ++ ns)) (ap integers_of next.is ∙ refused))
 
   module _ (found : ℕ × List Token) (is : Some found ≡ integer_at toks) where
-    pub shape_next : ShapeLeft whole (axes ++ min found.0 (max_items + 1) ∷ []) (behind_comma found.1)
-    shape_next =
-        let later = lengths_next toks h.left h.stand found is in
+    lengths_on : (axes' : List ℕ) → axes' ≡ take 65 (map held_length (h.before ++ found.0 ∷ [])) → LengthsLeft values axes' (behind_comma found.1)
+    lengths_on axes' held =
+        let front = integer_front_is toks found is in
+        let open' : None ≡ symbol_token_at 41 toks = rw front refl in
+        let next = stand_open value_in 41 toks h.left no_44 h.stand open' in
+        let stands = integer_stands toks next.first (record { rest = next.after; is = next.reads }) found is in
         record {
-          left = later.0;
-          stand = later.2;
+          left = next.others;
+          stand = subst (λ (l : List Token). HasValues 41 (behind_comma l) next.others) stands.1 next.more;
           before = h.before ++ found.0 ∷ [];
-          held = ap (λ (l : List ℕ). l ++ min found.0 (max_items + 1) ∷ []) h.held ∙ sym (map-append (λ n. min n (max_items + 1)) h.before (found.0 ∷ []));
-          same = h.same ∙ ap (λ (l : List ℕ). h.before ++ l) later.1 ∙ sym (append_assoc h.before (found.0 ∷ []) later.0);
+          same = h.same
+              ∙ ap (λ (l : List Literal). integers_of l >>= λ ns. Ok (h.before ++ ns)) (next.is ∙ ap (λ (x : Literal). x ∷ next.others) stands.0)
+              ∙ pushed (integers_of next.others) h.before found.0;
+          held = held;
         }
+      where
+        pushed : (r : Result (List ℕ) Refusal) (before : List ℕ) (n : ℕ) → ((r >>= λ ns. Ok (n ∷ ns)) >>= λ ns. Ok (before ++ ns)) ≡ (r >>= λ ns. Ok ((before ++ n ∷ []) ++ ns))
+        pushed (Ok ns) before n = ap (λ (l : List ℕ). Ok l) (sym (append_assoc before (n ∷ []) ns))
+        pushed (Err e) before n = refl
 
-    pub shape_long : length axes ≡ 64 → shape_of whole ≡ Err TooManyAxes
-    shape_long many =
-        let later = lengths_next toks h.left h.stand found is in
-        let held : length h.before ≡ 64 = sym (length-map h.before (λ n. min n (max_items + 1))) ∙ ap (λ (l : List ℕ). length l) (sym h.held) ∙ many in
-        shape_of-many whole (omega (arith, held, ap (λ (l : List ℕ). length l) h.same, length-append h.before h.left, ap (λ (l : List ℕ). length l) later.1))
+    pub length_held : length axes ≤ 64 → LengthsLeft values (axes ++ held_length found.0 ∷ []) (behind_comma found.1)
+    length_held few =
+        let all = map held_length h.before in
+        let one = held_length found.0 ∷ [] in
+        let whole : axes ≡ all = h.held ∙ take_all 65 all (omega (arith, few, ap (λ (l : List ℕ). length l) h.held, length-take 65 all)) in
+        lengths_on (axes ++ one) (ap (λ (l : List ℕ). l ++ one) whole ∙ sym (take_all 65 (all ++ one) (omega (arith, few, ap (λ (l : List ℕ). length l) whole, length-append all one))) ∙ ap (take 65) (sym (map-append held_length h.before (found.0 ∷ []))))
 
--- ---- what a header says
+    pub length_dropped : 64 < length axes → LengthsLeft values axes (behind_comma found.1)
+    length_dropped many =
+        let all = map held_length h.before in
+        let long : 65 ≤ length all = omega (arith, many, ap (λ (l : List ℕ). length l) h.held, length-take 65 all) in
+        lengths_on axes (h.held ∙ sym (take-append-le 65 all (held_length found.0 ∷ []) long) ∙ ap (take 65) (sym (map-append held_length h.before (found.0 ∷ []))))
 
-module _ (pairs : List Pair) (three : length pairs ≡ 3) where
-  module _ (element : Literal) (first : value_under (codes "descr") pairs ≡ Ok element) where
-    module _ (order : Literal) (second : value_under (codes "fortran_order") pairs ≡ Ok order) where
-      pub no_truth : (e : Refusal) → truth_of order ≡ Err e → header_of pairs ≡ Err e
-      unfolding header_of
-      no_truth e is = rw (three, first, second, is) refl
+pub shape_inside : (v : Literal) (values : List Literal) → v ≡ Row Round (all_listed_values values) → shape_under v ≡ (integers_of values >>= λ ns. Ok (shape_of ns))
+shape_inside v values is = ap shape_under is ∙ ap (λ (l : List Literal). integers_of l >>= λ ns. Ok (shape_of ns)) (literals_of_listed values)
 
-      module _ (fortran : Bool) (truth : truth_of order ≡ Ok fortran) where
-        pub no_shape : (e : Refusal) → value_under (codes "shape") pairs ≡ Err e → header_of pairs ≡ Err e
-        unfolding header_of
-        no_shape e is = rw (three, first, second, truth, is) refl
+pub shape_found : (tuple : Literal) (shape : Result (List ℕ) Refusal) → shape_under tuple ≡ Ok shape → (found : List ℕ) × (lengths_of tuple ≡ Ok found) × (shape_of found ≡ shape)
+shape_found tuple shape is =
+    let found = bind_ok (lengths_of tuple) _ _ is in
+    let same : shape_of found.0 ≡ shape = cc in
+    (found.0, found.1, same)
 
-        module _ (tuple : Literal) (third : value_under (codes "shape") pairs ≡ Ok tuple) where
-          pub no_lengths : (e : Refusal) → lengths_of tuple ≡ Err e → header_of pairs ≡ Err e
-          unfolding header_of
-          no_lengths e is = rw (three, first, second, truth, third, is) refl
+pub no_lengths : (tuple : Literal) (e : Refusal) → shape_under tuple ≡ Err e → lengths_of tuple ≡ Err e
+no_lengths tuple e = refused (lengths_of tuple)
+  where
+    refused : (r : Result (List ℕ) Refusal) → (r >>= λ ns. Ok (shape_of ns)) ≡ Err e → r ≡ Err e
+    refused (Ok ns) is = cc
+    refused (Err e') is = let same : e' ≡ e = cc in ap (λ (x : Refusal). Err x) same
 
-          module _ (lengths : List ℕ) (integers : lengths_of tuple ≡ Ok lengths) where
-            pub no_descr : (e : Refusal) → descr_in element ≡ Err e → header_of pairs ≡ Err e
-            unfolding header_of
-            no_descr e is = rw (three, first, second, truth, third, integers, is) refl
-
-            module _ (descr : Descr) (means : descr_in element ≡ Ok descr) where
-              pub shape_refused : (e : Refusal) → shape_of lengths ≡ Err e → header_of pairs ≡ Err e
-              unfolding header_of
-              shape_refused e is = rw (three, first, second, truth, third, integers, means, is) refl
-
-              pub header_said : (shape : List ℕ) → shape_of lengths ≡ Ok shape → header_of pairs ≡ Ok (record { descr = descr; fortran = fortran; shape = shape })
-              unfolding header_of
-              header_said shape is = rw (three, first, second, truth, third, integers, means, is) refl
+-- the refusal of the first of two steps is that of both
+pub or_refused : {X Y : Type 0} (e : Refusal) (r : Result X Refusal) (f : X → Result Y Refusal) → (e ≡ OutOfMemory) ⊎ (r ≡ Err e) → (e ≡ OutOfMemory) ⊎ ((r >>= f) ≡ Err e)
+or_refused e r f = ⊎_elim inl (λ is. inr (ap (λ r. r >>= f) is))

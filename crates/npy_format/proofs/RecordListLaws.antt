@@ -5,11 +5,6 @@ use Rattle.npy_format.proofs.ValueLaws.{literals_of_listed}
 use Rattle.npy_format.proofs.PlaceLaws.{stand_closed, stand_open}
 use Rattle.npy_format.proofs.StandLaws.{next_stands, is_read}
 
--- If no levels are allowed, a record is refused.
-pub no_levels : (levels leaves : ℕ) (entries : List Literal) → levels ≡ 0 → record_in levels leaves entries ≡ Err DescriptorLeftOut
-unfolding record_in
-no_levels levels leaves entries none = rw none refl
-
 -- a record so far, and the remaining entries
 pub record FieldsLeft (levels leaves : ℕ) (whole : List Literal) (p : Partial) (toks : List Token) : Type 0 where
   pub left : List Literal
@@ -107,21 +102,6 @@ module _ (within : Reader) (p : Partial) where
     pub entry_field : is_empty name ≡ false → entry_in within p v ≡ field_in within p name type
     entry_field some = entry_means v ∙ ap (parts_in within p) parts ∙ ap (λ (b : Bool). if b then pad_in p type else field_in within p name type) some
 
-  module _ (name : List ℕ) (type : Literal) where
-    pub field_illegal : is_legal_name name ≡ false → field_in within p name type ≡ Err DescriptorLeftOut
-    unfolding field_in
-    field_illegal no_name = rw no_name refl
-
-    module _ (legal : is_legal_name name ≡ true) where
-      pub field_untyped : (e : Refusal) → type_in (within p.leaves) type ≡ Err e → field_in within p name type ≡ Err e
-      unfolding field_in
-      field_untyped e is = rw (legal, is) refl
-
-      module _ (descr : Descr) (means : type_in (within p.leaves) type ≡ Ok descr) where
-        pub field_taken : (e : Refusal) → checked_name p name ≡ Err e → field_in within p name type ≡ Err e
-        unfolding field_in
-        field_taken e is = rw (legal, means, is) refl
-
-        pub field_added : checked_name p name ≡ Ok tt → field_in within p name type ≡ added p name 1 descr
-        unfolding field_in
-        field_added is = rw (legal, means, is) refl
+  pub field_added : (name : List ℕ) (type : Literal) (descr : Descr) → is_legal_name name ≡ true → type_in (within p.leaves) type ≡ Ok descr → checked_name p name ≡ Ok tt → field_in within p name type ≡ added p name 1 descr
+  unfolding field_in
+  field_added name type descr legal means is = rw (legal, means, is) refl

@@ -1,6 +1,6 @@
 -- A file whose items are stored in their block as in the file.
 use Rattle.std.proofs.Common.{◌≡◌, ℕ, ◌+◌, ◌*◌, ◌≤◌, Bool, true, List, ◌++◌, map, length, drop, All, IfOk, refl, sym, ap, subst, ◌∙◌, arith, ◌||◌, inl, inr}
-use Rattle.npy_format.proofs.Words.{flat_map, take-append_seam, drop-append_seam, item_at, length-item_at, Descr, item_size, leaves_of, AreInOrder, encode_item, decode_item, blocks, item_from, count, first_address, is_c_contiguous, is_f_contiguous, LeafValue, AreBytes, bytes-drop, bytes-take, max_bytes, file_order, is_fortran, ordered, file_of, saved, LoadsAs, gathered, IsPlain, addresses_in_file, cases_lt}
+use Rattle.npy_format.proofs.Words.{flat_map, take-append_seam, drop-append_seam, item_at, length-item_at, Descr, item_size, leaves_of, AreInOrder, encode_item, decode_item, blocks, item_from, count, first_address, is_c_contiguous, is_f_contiguous, LeafValue, AreBytes, bytes-drop, bytes-take, max_bytes, file_order, is_fortran, ordered, file_of, saved, LoadsAs, gathered, limits_from, addresses_in_file, cases_lt}
 use Rattle.npy_format.proofs.WrittenItemLaws.{plain_again, all_again}
 use Rattle.npy_format.proofs.GatherLaws.{together}
 use Rattle.npy_format.proofs.WriterLaws.{file_written, saved-large, saved-small}
@@ -10,7 +10,7 @@ module _ (descr : Descr) (shape offsets bytes : List ℕ) (start len : ℕ) (lon
   pub stretch_ends : start + len ≤ length bytes
   stretch_ends = let ends = (together (item_size descr) shape offsets bytes long inside is).ends in omega (arith, ends, first, sized)
 
-  pub stretch_written : (head : List ℕ) → IsPlain 0 (leaves_of descr) (item_size descr) → AreInOrder 0 (leaves_of descr) (item_size descr) → AreBytes bytes
+  pub stretch_written : (head : List ℕ) → All (λ limit. limit ≡ 255) (limits_from 0 (leaves_of descr) (item_size descr)) → AreInOrder 0 (leaves_of descr) (item_size descr) → AreBytes bytes
       → head ++ item_at start len bytes ≡ head ++ flat_map (encode_item descr) (ordered (file_order (is_fortran (item_size descr) shape offsets)) shape (map (item_from descr bytes) offsets))
   stretch_written head plain order are =
       let width = item_size descr in

@@ -1,6 +1,6 @@
 -- The tokens after entries, read turn by turn, and after a value in brackets.
-use Rattle.std.proofs.Common.{◌≡◌, ◌<◌, ◌≤◌, ◌-◌, ℕ, zero, suc, Bool, List, [], ◌∷◌, length, Option, Some, None, Ok, Err, refl, ap, ◌∙◌, arith}
-use Rattle.npy_format.proofs.Words.{ok_or, Refusal, BadHeader, ◌>>=◌, bind_same, Token, Literal, Pair, HeaderAnyTurns, Read, symbol_token_at, if_read, list_end, entries_in, tuple_in, list_in, pair_in, dictionary_in, bracketed, literal_in, behind, behind_entries, behind_key}
+use Rattle.std.proofs.Common.{◌≡◌, ◌<◌, ◌≤◌, ◌-◌, ℕ, zero, suc, Bool, true, false, List, [], ◌∷◌, length, Option, Some, None, Ok, Err, refl, ap, ◌∙◌, arith}
+use Rattle.npy_format.proofs.Words.{ok_or, Refusal, BadHeader, ◌>>=◌, bind_same, Token, Literal, Pair, HeaderAnyTurns, Read, symbol_token_at, if_read, list_end, entries_in, tuple_in, list_in, pair_in, dictionary_in, bracketed, literal_in, behind, behind_entries, behind_key, behind_one, behind_all}
 use Rattle.npy_format.specs.Tokens as token
 use Rattle.npy_format.proofs.GrammarLaws.{Shortens, symbol_shorter, pair_leaves, literal_leaves}
 use Rattle.npy_format.proofs.TokenLaws.{tokens_any_turns}
@@ -39,56 +39,36 @@ module _ {A : Type 0} (entry : List Token → Read A) (shortens : Shortens entry
     begins : behind_entries entry closing toks ≡ behind (entries_in entry closing (suc (length toks)) toks)
     begins = ap (λ (r : Read (List A)). behind r) (entries_turns closing (length toks) (suc (length toks)) toks (omega arith) (omega arith))
 
-    pub skip_closed : (end : List Token) → Some end ≡ symbol_token_at closing toks → behind_entries entry closing toks ≡ Ok end
+    pub skip_shorter : (after : List Token) → behind (entry toks) ≡ Ok after → length after < length toks
+    skip_shorter after reads = let first = behind_ok (entry toks) after reads in shortens toks (first.0, after) first.1
+
+    -- the first entry, and those after it
+    pub entries_step : behind_entries entry closing toks ≡ if_read (symbol_token_at closing toks) (λ end. Ok end)
+        (behind (entry toks) >>= λ after. if_read (symbol_token_at closing after) (λ end. Ok end) (if_read (symbol_token_at 44 after) (behind_entries entry closing) (Err BadHeader)))
     unfolding entries_in
-    skip_closed end ends = begins ∙ rw (← ends) refl
+    entries_step = begins ∙ first (symbol_token_at closing toks) (entry toks) (shortens toks)
+      where
+        others : (after : List Token) → length after < length toks → (end comma : Option (List Token)) → ((b : List Token) → Some b ≡ comma → length after ≡ suc (length b))
+            → behind (if_read end list_end (if_read comma (entries_in entry closing (length toks)) (Err BadHeader))) ≡ if_read end (λ end. Ok end) (if_read comma (behind_entries entry closing) (Err BadHeader))
+        others after less (Some end) comma shorter = refl
+        others after less None None shorter = refl
+        others after less None (Some next) shorter = ap (λ (r : Read (List A)). behind r) (entries_turns closing (length toks) (length next) next (omega (arith, less, shorter next refl)) (omega arith))
 
-    module _ (no_end : None ≡ symbol_token_at closing toks) where
-      pub skip_refused : (e : Refusal) → behind (entry toks) ≡ Err e → behind_entries entry closing toks ≡ Err e
-      unfolding entries_in
-      skip_refused e fails = let is = behind_err (entry toks) e fails in begins ∙ rw (← no_end, is) refl
-
-      module _ (after : List Token) (reads : behind (entry toks) ≡ Ok after) where
-        pub skip_last : (end : List Token) → Some end ≡ symbol_token_at closing after → behind_entries entry closing toks ≡ Ok end
-        unfolding entries_in
-        skip_last end ends = let first = behind_ok (entry toks) after reads in begins ∙ rw (← no_end, first.1, ← ends) refl
-
-        pub skip_no_mark : None ≡ symbol_token_at closing after → None ≡ symbol_token_at 44 after → behind_entries entry closing toks ≡ Err BadHeader
-        unfolding entries_in
-        skip_no_mark not_last no_comma = let first = behind_ok (entry toks) after reads in begins ∙ rw (← no_end, first.1, ← not_last, ← no_comma) refl
-
-        pub skip_shorter : length after < length toks
-        skip_shorter = let first = behind_ok (entry toks) after reads in shortens toks (first.0, after) first.1
-
-        pub skip_next : (next : List Token) → None ≡ symbol_token_at closing after → Some next ≡ symbol_token_at 44 after → behind_entries entry closing toks ≡ behind_entries entry closing next
-        unfolding entries_in
-        skip_next next not_last comma =
-            let first = behind_ok (entry toks) after reads in
-            begins ∙ rw (← no_end, first.1, ← not_last, ← comma)
-            (behind_other (entries_in entry closing (length toks) next) (λ others. first.0 ∷ others)
-            ∙ ap (λ (r : Read (List A)). behind r) (entries_turns closing (length toks) (length next) next (omega (arith, skip_shorter, symbol_shorter 44 after next comma)) (omega arith)))
+        first : (end : Option (List Token)) (r : Read A) → ((y : A × List Token) → r ≡ Ok y → length y.1 < length toks)
+            → behind (if_read end list_end (r >>= λ x. if_read (symbol_token_at closing x.1) list_end (if_read (symbol_token_at 44 x.1) (entries_in entry closing (length toks)) (Err BadHeader)) >>= λ xs. Ok (x.0 ∷ xs.0, xs.1)))
+            ≡ if_read end (λ end. Ok end) (behind r >>= λ after. if_read (symbol_token_at closing after) (λ end. Ok end) (if_read (symbol_token_at 44 after) (behind_entries entry closing) (Err BadHeader)))
+        first (Some end) r less = refl
+        first None (Err e) less = refl
+        first None (Ok x) less = behind_other _ (λ xs. x.0 ∷ xs) ∙ others x.1 (less x refl) (symbol_token_at closing x.1) (symbol_token_at 44 x.1) (symbol_shorter 44 x.1)
 
 -- ---- in brackets
 
 module _ (value : List Token → Read Literal) (toks : List Token) where
-  pub tuple_closed : (end : List Token) → Some end ≡ symbol_token_at 41 toks → behind (tuple_in value toks) ≡ Ok end
+  pub tuple_next : (after next : List Token) → None ≡ symbol_token_at 41 toks → behind (value toks) ≡ Ok after → Some next ≡ symbol_token_at 44 after → behind (tuple_in value toks) ≡ behind_entries value 41 next
   unfolding tuple_in
-  tuple_closed end ends = rw (← ends) refl
-
-  module _ (no_end : None ≡ symbol_token_at 41 toks) where
-    pub tuple_refused : (e : Refusal) → behind (value toks) ≡ Err e → behind (tuple_in value toks) ≡ Err e
-    unfolding tuple_in
-    tuple_refused e fails = let is = behind_err (value toks) e fails in rw (← no_end, is) refl
-
-    pub tuple_no_mark : (after : List Token) → behind (value toks) ≡ Ok after → None ≡ symbol_token_at 44 after → behind (tuple_in value toks) ≡ Err BadHeader
-    unfolding tuple_in
-    tuple_no_mark after reads no_comma = let first = behind_ok (value toks) after reads in rw (← no_end, first.1, ← no_comma) refl
-
-    pub tuple_next : (after next : List Token) → behind (value toks) ≡ Ok after → Some next ≡ symbol_token_at 44 after → behind (tuple_in value toks) ≡ behind_entries value 41 next
-    unfolding tuple_in
-    tuple_next after next reads comma =
-        let first = behind_ok (value toks) after reads in
-        rw (← no_end, first.1, ← comma) (behind_other (entries_in value 41 (length next) next) _)
+  tuple_next after next no_end reads comma =
+      let first = behind_ok (value toks) after reads in
+      rw (← no_end, first.1, ← comma) (behind_other (entries_in value 41 (length next) next) _)
 
   pub list_skipped : behind (list_in value toks) ≡ behind_entries value 93 toks
   unfolding list_in
@@ -123,39 +103,22 @@ pub no_pair : (depth : ℕ) → pair_in (literal_in depth) [] ≡ Err BadHeader
 unfolding pair_in literal_in
 no_pair depth = refl
 
-module _ (depth : ℕ) (toks rest : List Token) where
-  pub skip_text : (bytes : List ℕ) → toks ≡ token.Text bytes ∷ rest → behind (literal_in depth toks) ≡ Ok rest
-  unfolding literal_in
-  skip_text bytes is = rw is refl
-
-  pub skip_integer : (n : ℕ) → toks ≡ token.Integer n ∷ rest → behind (literal_in depth toks) ≡ Ok rest
-  unfolding literal_in
-  skip_integer n is = rw is refl
-
-  pub skip_truth : (truth : Bool) → toks ≡ token.Truth truth ∷ rest → behind (literal_in depth toks) ≡ Ok rest
-  unfolding literal_in
-  skip_truth truth is = rw is refl
-
-  pub skip_nothing : toks ≡ token.Nothing ∷ rest → behind (literal_in depth toks) ≡ Ok rest
-  unfolding literal_in
-  skip_nothing is = rw is refl
-
-  pub no_stray : toks ≡ token.Stray ∷ rest → behind (literal_in depth toks) ≡ Err BadHeader
-  unfolding literal_in
-  no_stray is = rw is refl
-
-  pub no_level : (b : ℕ) → depth ≤ 0 → toks ≡ token.Symbol b ∷ rest → behind (literal_in depth toks) ≡ Err BadHeader
-  unfolding literal_in
-  no_level b none is = let zero_is : depth ≡ zero = omega (arith, none) in rw (zero_is, is) refl
-
-  -- brackets, if a level is left for them
-  pub skip_symbol : (b : ℕ) → 0 < depth → toks ≡ token.Symbol b ∷ rest → literal_in depth toks ≡ bracketed (literal_in (depth - 1)) b rest
-  unfolding literal_in
-  skip_symbol b some is = let more : depth ≡ suc (depth - 1) = omega (arith, some) in rw is (ap (λ (n : ℕ). literal_in n (token.Symbol b ∷ rest)) more)
-
-pub skip_end : (depth : ℕ) (toks : List Token) → toks ≡ [] → behind (literal_in depth toks) ≡ Err BadHeader
+-- brackets, if a level is left for them
+pub skip_symbol : (depth b : ℕ) (toks rest : List Token) → 0 < depth → toks ≡ token.Symbol b ∷ rest → literal_in depth toks ≡ bracketed (literal_in (depth - 1)) b rest
 unfolding literal_in
-skip_end depth toks is = rw is refl
+skip_symbol depth b toks rest some is = let more : depth ≡ suc (depth - 1) = omega (arith, some) in rw is (ap (λ (n : ℕ). literal_in n (token.Symbol b ∷ rest)) more)
+
+-- ---- entries, which are pairs or values
+
+module _ (depth : ℕ) where
+  pub all_step : (is_pair : Bool) (closing : ℕ) (toks : List Token) → behind_all depth is_pair closing toks ≡ if_read (symbol_token_at closing toks) (λ end. Ok end)
+      (behind_one depth is_pair toks >>= λ after. if_read (symbol_token_at closing after) (λ end. Ok end) (if_read (symbol_token_at 44 after) (behind_all depth is_pair closing) (Err BadHeader)))
+  all_step true = entries_step (pair_in (literal_in depth)) (pair_leaves (literal_in depth) (literal_leaves depth)) (no_pair depth)
+  all_step false = entries_step (literal_in depth) (literal_leaves depth) (no_literal depth)
+
+  pub one_shorter : (is_pair : Bool) (toks after : List Token) → behind_one depth is_pair toks ≡ Ok after → length after < length toks
+  one_shorter true = skip_shorter (pair_in (literal_in depth)) (pair_leaves (literal_in depth) (literal_leaves depth)) (no_pair depth) 125
+  one_shorter false = skip_shorter (literal_in depth) (literal_leaves depth) (no_literal depth) 125
 
 -- More turns read the same.
 pub header_any_turns : HeaderAnyTurns

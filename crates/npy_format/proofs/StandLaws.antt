@@ -1,6 +1,6 @@
 -- What is found when a text is read a second time.
 use Rattle.std.proofs.Common.{◌≡◌, ◌≢◌, ℕ, true, false, List, [], ◌∷◌, Option, Some, None, Result, Ok, Err, refl, ap, sym, subst, ◌∙◌, arith, option_copied}
-use Rattle.npy_format.proofs.Words.{Bor, is_some, option_map, Refusal, BadHeader, BadDescriptor, DescriptorLeftOut, Structure, ◌>>=◌, Partial, bind_ok, Token, tokens, Text, Integer, Round, Square, Literal, Plain, Row, all_listed_values, Read, symbol_token_at, literal_in, pad_in, type_in, descr_in, is_string, truth_of, integers_of, lengths_of, behind_comma, behind_entry, string_at, integer_at, truth_at, is_string_token, pad_at, StandIn, HasValues, HasLengths, Stands, value_in, name_and_type, entry_parts}
+use Rattle.npy_format.proofs.Words.{Bor, is_some, option_map, Refusal, BadHeader, BadDescriptor, DescriptorLeftOut, Structure, Partial, Token, tokens, Text, Integer, Round, Square, Literal, Plain, Row, all_listed_values, Read, symbol_token_at, literal_in, pad_in, type_in, descr_in, is_string, truth_of, integers_of, lengths_of, behind_comma, behind_entry, string_at, integer_at, truth_at, is_string_token, pad_at, StandIn, HasValues, Stands, value_in, name_and_type, entry_parts}
 use Rattle.npy_format.specs.Tokens as token
 use Rattle.npy_format.proofs.ValueLaws.{literals_of_listed}
 use Rattle.npy_format.proofs.PlaceLaws.{stand_open, stand_closed, Front, text_front, integer_front, truth_front, nothing_front, boxed_front, tuple_boxed, list_boxed, pairs_boxed, front_of, same_read}
@@ -295,30 +295,3 @@ integer_front_is (token.Truth truth ∷ toks) found is = cc
 integer_front_is (token.Nothing ∷ toks) found is = cc
 integer_front_is (token.Symbol b ∷ toks) found is = cc
 integer_front_is (token.Stray ∷ toks) found is = cc
-
-module _ (toks : List Token) (lengths : List ℕ) (h : HasLengths toks lengths) where
-  pub lengths_end : None ≡ integer_at toks → lengths ≡ []
-  lengths_end none = go (symbol_token_at 41 toks) refl
-    where
-      go : (o : Option (List Token)) → symbol_token_at 41 toks ≡ o → lengths ≡ []
-      go (Some end) e =
-          let none_left = stand_closed value_in 41 toks h.values h.stand end (sym e) in
-          let w : Ok [] ≡ Ok lengths = rw none_left at h.are in cc
-      go None e =
-          let next = stand_open value_in 41 toks h.values no_44 h.stand (sym e) in
-          let refused = no_integer toks next.first (record { rest = next.after; is = next.reads }) none next.others in
-          let w = ap integers_of (sym next.is) ∙ h.are in
-          let w' = sym refused ∙ w in cc
-
-  pub lengths_next : (found : ℕ × List Token) → Some found ≡ integer_at toks → (later : List ℕ) × (lengths ≡ found.0 ∷ later) × HasLengths (behind_comma found.1) later
-  lengths_next found is = go (integer_front_is toks found is)
-    where
-      go : toks ≡ token.Integer found.0 ∷ found.1 → (later : List ℕ) × (lengths ≡ found.0 ∷ later) × HasLengths (behind_comma found.1) later
-      go front =
-          let open' : None ≡ symbol_token_at 41 toks = rw front refl in
-          let next = stand_open value_in 41 toks h.values no_44 h.stand open' in
-          let stands = integer_stands toks next.first (record { rest = next.after; is = next.reads }) found is in
-          let are : (integers_of next.others >>= λ ns. Ok (found.0 ∷ ns)) ≡ Ok lengths = ap (λ (x : Literal). integers_of (x ∷ next.others)) (sym stands.0) ∙ ap integers_of (sym next.is) ∙ h.are in
-          let later = bind_ok (integers_of next.others) _ _ are in
-          let same : lengths ≡ found.0 ∷ later.0 = cc in
-          (later.0, same, record { values = next.others; stand = subst (λ (l : List Token). HasValues 41 (behind_comma l) next.others) stands.1 next.more; are = later.1 })

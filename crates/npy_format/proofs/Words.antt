@@ -19,12 +19,12 @@ unfoldable pub use Rattle.npy_format.specs.WrittenFiles.{saved}
 pub use Rattle.npy_format.specs.WrittenHeaders.{entries, entry, entry_separator, gap, in_brackets, max_short_text, opened_entry, padded_text, quoted, separated, spaces_after, with_length, written_descr, written_header, written_text, written_truth}
 pub use Rattle.npy_format.specs.declared.header.Header.{Header}
 pub use Rattle.npy_format.specs.declared.token.Token.{Token as Scanned}
-pub use Rattle.npy_format.specs.inside.Entries.{behind, behind_comma, behind_entries, behind_entry, behind_key}
+pub use Rattle.npy_format.specs.inside.Entries.{behind, behind_all, behind_comma, behind_entries, behind_entry, behind_key, behind_one}
 unfoldable pub use Rattle.npy_format.specs.inside.LoadedParts.{load_behind}
-pub use Rattle.npy_format.specs.inside.Places.{HasLengths, HasPairs, HasValues, StandIn, Stands, entry_parts, name_and_type, value_in}
+pub use Rattle.npy_format.specs.inside.Places.{HasPairs, HasValues, StandIn, Stands, entry_parts, name_and_type, shape_under, value_in}
 pub use Rattle.npy_format.specs.inside.Scanned.{integer_at, is_string_token, pad_at, string_at, token_of, truth_at}
 pub use Rattle.npy_format.specs.inside.Sound.{IsSound}
-pub use Rattle.npy_format.specs.inside.WrittenItems.{IsPlain, addresses_in_file, capped, gathered, limit, limits_from, read_leaf, written_item}
+pub use Rattle.npy_format.specs.inside.WrittenItems.{addresses_in_file, capped, gathered, limit, limits_from, read_leaf, written_item}
 pub use Rattle.std.proofs.Math.Nat.{min-zero, mod-lt, mul-add, mul-le-mul_left}
 pub use Rattle.std.proofs.Math.Seq.{drop-append-add, drop-append_seam, take-add, take-append_seam}
 pub use Rattle.std.proofs.lemmas.Bool.{and_parts, cases_lt, eqb-true, le-leb, le-ltb, leb-true, lt-leb, lt-ltb, ne_eqb, true≢false}

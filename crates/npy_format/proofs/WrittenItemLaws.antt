@@ -1,6 +1,6 @@
 -- Writing items over their own bytes.
-use Rattle.std.proofs.Common.{◌≡◌, ℕ, zero, suc, ◌+◌, ◌-◌, ◌*◌, ◌<◌, ◌≤◌, min, inl, inr, List, [], ◌∷◌, ◌++◌, map, length, get_or, take, drop, replicate, slice_set, refl, sym, ap, subst, ◌∙◌, arith, append_assoc, length-append, length-take, length-drop, zero-mul, suc-mul, mul-one}
-use Rattle.npy_format.proofs.Words.{append-nil, flat_map, repeat, take-append_seam, drop-append_seam, mul-le-mul_left, min-zero, cases_lt, drop_all, take-append-drop, drop-drop, length-replicate, item_at, put, front_length, Leaf, Scalar, Byte, Int, Bytes, size, decode, encode, truth_suc, AreInOrder, encode_from, AreInOrder-within, blocks, AreBytes, bytes-drop, bytes-take, length-encode, BoolScalar, read_leaf, written_item, limit, limits_from, capped, IsPlain}
+use Rattle.std.proofs.Common.{◌≡◌, ℕ, zero, suc, ◌+◌, ◌-◌, ◌*◌, ◌<◌, ◌≤◌, min, All, inl, inr, List, [], ◌∷◌, ◌++◌, map, length, get_or, take, drop, replicate, slice_set, refl, sym, ap, subst, ◌∙◌, arith, append_assoc, length-append, length-take, length-drop, zero-mul, suc-mul, mul-one}
+use Rattle.npy_format.proofs.Words.{append-nil, flat_map, repeat, take-append_seam, drop-append_seam, mul-le-mul_left, min-zero, cases_lt, drop_all, take-append-drop, drop-drop, length-replicate, item_at, put, front_length, Leaf, Scalar, Byte, Int, Bytes, size, decode, encode, truth_suc, AreInOrder, encode_from, AreInOrder-within, blocks, AreBytes, bytes-drop, bytes-take, length-encode, BoolScalar, read_leaf, written_item, limit, limits_from, capped, All-head, All-tail}
 use Rattle.npy_format.proofs.ScalarBytes.{scalar_again, bool_again}
 
 -- ---- bytes that are put in place
@@ -187,24 +187,17 @@ bands_capped leaves width count copies bytes bytes' order some more long are is 
 
 -- ---- items that are written as they are
 
-plain_from : (from : ℕ) (leaves : List Leaf) (bytes : ℕ) (item : List ℕ) → IsPlain from leaves bytes → AreInOrder from leaves bytes → length item ≡ bytes → AreBytes item → encode_from from leaves (map (read_leaf item) leaves) bytes ≡ drop from item
-plain_from from [] bytes item plain order long are =
-    let none : bytes - from ≡ 0 = omega (arith, plain) in
-    ap (λ n. replicate n 0) none ∙ sym (drop_all from item (omega (arith, plain, long)))
-plain_from from (leaf ∷ leaves) bytes item plain order long are =
-    let n = size leaf.scalar in
-    let is = plain.0 in
-    let none : from - from ≡ 0 = omega arith in
-    let low : leaf.at + n ≤ bytes = AreInOrder-within (leaf.at + n) leaves bytes order.2 in
-    let wide : length (item_at from n item) ≡ n = omega (arith, is, low, long, length-take n (drop from item), length-drop from item) in
-    let next : AreInOrder (from + n) leaves bytes = subst (λ at. AreInOrder (at + n) leaves bytes) is order.2 in
-    (λ i. (replicate (is i - from) 0 ++ encode leaf.scalar (decode leaf.scalar (item_at (is i) n item))) ++ encode_from (is i + n) leaves (map (read_leaf item) leaves) bytes)
-    ∙ (λ i. (replicate (none i) 0 ++ scalar_again leaf.scalar (item_at from n item) plain.1 wide (bytes-take n (drop from item) (bytes-drop from item are)) i) ++ plain_from (from + n) leaves bytes item plain.2 next long are i)
-    ∙ ap (λ back. item_at from n item ++ back) (sym (drop-drop n from item))
-    ∙ take-append-drop n (drop from item)
+capped-most : (bytes limits : List ℕ) → All (λ limit. limit ≡ 255) limits → AreBytes bytes → capped bytes limits ≡ bytes
+capped-most [] limits most are = refl
+capped-most (b ∷ bytes) [] most are = refl
+capped-most (b ∷ bytes) (l ∷ limits) most are =
+    let low : b < 256 = are 0 in
+    let here : l ≡ 255 = All-head (λ limit. limit ≡ 255) l limits most in
+    let same : min b l ≡ b = omega (arith, low, here) in
+    λ i. same i ∷ capped-most bytes limits (All-tail (λ limit. limit ≡ 255) l limits most) (λ k. are (suc k)) i
 
-pub plain_again : (leaves : List Leaf) (bytes : ℕ) (item : List ℕ) → IsPlain 0 leaves bytes → AreInOrder 0 leaves bytes → length item ≡ bytes → AreBytes item → written_item leaves bytes item ≡ item
-plain_again leaves bytes item plain order long are = plain_from 0 leaves bytes item plain order long are
+pub plain_again : (leaves : List Leaf) (bytes : ℕ) (item : List ℕ) → All (λ limit. limit ≡ 255) (limits_from 0 leaves bytes) → AreInOrder 0 leaves bytes → length item ≡ bytes → AreBytes item → written_item leaves bytes item ≡ item
+plain_again leaves bytes item plain order long are = sym (item_capped 0 leaves bytes item order long are) ∙ capped-most item (limits_from 0 leaves bytes) plain are
 
 -- items that are all written as they are
 pub all_again : (f : List ℕ → List ℕ) (width n : ℕ) (bytes : List ℕ) → ((item : List ℕ) → length item ≡ width → AreBytes item → f item ≡ item) → length bytes ≡ n * width → AreBytes bytes → bytes ≡ flat_map f (blocks width n bytes)

@@ -1,10 +1,9 @@
 //! Parses the literals in the text of a header.
-ghost use Rattle.std.specs.Prelude.{◌≡◌, length, option_copied};
+ghost use Rattle.std.specs.Prelude.{◌≡◌, length, nat_eq, option_copied};
 ghost use Rattle.npy_format.specs.Words.{option_map, value_of};
 ghost use Rattle.npy_format.specs.Tokens.{tokens};
-ghost use Rattle.npy_format.specs.Literals.{symbol_token_at, tuple_in, pair_in, bracketed, literal_in};
-ghost use Rattle.npy_format.specs.inside.Entries.{Follows, behind, behind_entries, behind_key, behind_comma, behind_entry};
-ghost use Rattle.npy_format.specs.inside.Places.{value_in};
+ghost use Rattle.npy_format.specs.Literals.{symbol_token_at, tuple_in, bracketed, literal_in};
+ghost use Rattle.npy_format.specs.inside.Entries.{Follows, behind, behind_one, behind_all, behind_next, behind_key, behind_comma};
 ghost use Rattle.npy_format.specs.inside.Scanned.{string_at, integer_at};
 
 use crate::token::{Token, next_token};
@@ -56,17 +55,29 @@ pub fn skip_comma(text: &[u8]) -> &[u8]
     symbol(b',', text).unwrap_or(text)
 }
 
-/// What follows values separated by commas and the symbol that closes them.
+/// What follows an entry: a pair, if a brace closes the entries, and otherwise a value.
 #[cycle(nesting)]
-fn skip_values(depth: usize, closing: u8, text: &[u8]) -> Result<&[u8], Refusal>
-    ensures { Follows result (behind_entries (literal_in depth) closing (tokens text.now)) }
+fn skip_entry(depth: usize, closing: u8, text: &[u8]) -> Result<&[u8], Refusal>
+    ensures { Follows result (behind_one depth (nat_eq closing 125) (tokens text.now)) }
+{
+    if closing == b'}' {
+        let value = skip_key(depth, text)?;
+        return skip_literal(depth, value);
+    }
+    skip_literal(depth, text)
+}
+
+/// What follows entries separated by commas and the symbol that closes them.
+#[cycle(nesting)]
+pub fn skip_entries(depth: usize, closing: u8, text: &[u8]) -> Result<&[u8], Refusal>
+    ensures { Follows result (behind_all depth (nat_eq closing 125) closing (tokens text.now)) }
 {
     let mut rest = text;
     loop {
         if let Some(end) = symbol(closing, rest) {
             return Ok(end);
         }
-        let after = skip_literal(depth, rest)?;
+        let after = skip_entry(depth, closing, rest)?;
         if let Some(end) = symbol(closing, after) {
             return Ok(end);
         }
@@ -89,7 +100,7 @@ fn skip_tuple(depth: usize, text: &[u8]) -> Result<&[u8], Refusal>
     let Some(next) = symbol(b',', after) else {
         return Err(Refusal::BadHeader);
     };
-    skip_values(depth, b')', next)
+    skip_entries(depth, b')', next)
 }
 
 /// What follows a key and its colon.
@@ -104,36 +115,6 @@ pub fn skip_key(depth: usize, text: &[u8]) -> Result<&[u8], Refusal>
     Ok(value)
 }
 
-/// What follows a key and its value.
-#[cycle(nesting)]
-fn skip_pair(depth: usize, text: &[u8]) -> Result<&[u8], Refusal>
-    ensures { Follows result (behind (pair_in (literal_in depth) (tokens text.now))) }
-{
-    let value = skip_key(depth, text)?;
-    skip_literal(depth, value)
-}
-
-/// What follows the pairs of a dictionary after its bracket.
-#[cycle(nesting)]
-pub fn skip_pairs(depth: usize, text: &[u8]) -> Result<&[u8], Refusal>
-    ensures { Follows result (behind_entries (pair_in (literal_in depth)) 125 (tokens text.now)) }
-{
-    let mut rest = text;
-    loop {
-        if let Some(end) = symbol(b'}', rest) {
-            return Ok(end);
-        }
-        let after = skip_pair(depth, rest)?;
-        if let Some(end) = symbol(b'}', after) {
-            return Ok(end);
-        }
-        let Some(next) = symbol(b',', after) else {
-            return Err(Refusal::BadHeader);
-        };
-        rest = next;
-    }
-}
-
 /// What follows the tuple, the list or the dictionary that this symbol opens.
 #[cycle(nesting)]
 fn skip_bracketed(depth: usize, opening: u8, text: &[u8]) -> Result<&[u8], Refusal>
@@ -141,8 +122,8 @@ fn skip_bracketed(depth: usize, opening: u8, text: &[u8]) -> Result<&[u8], Refus
 {
     match opening {
         b'(' => skip_tuple(depth, text),
-        b'[' => skip_values(depth, b']', text),
-        b'{' => skip_pairs(depth, text),
+        b'[' => skip_entries(depth, b']', text),
+        b'{' => skip_entries(depth, b'}', text),
         _ => Err(Refusal::BadHeader),
     }
 }
@@ -163,18 +144,10 @@ fn skip_literal(depth: usize, text: &[u8]) -> Result<&[u8], Refusal>
     }
 }
 
-/// What follows a value among others, and the comma after it.
-pub fn behind_value(text: &[u8]) -> Result<&[u8], Refusal>
-    ensures { Follows result (behind_entry value_in (tokens text.now)) }
+/// What follows one of the entries that this symbol closes, and the comma after it.
+pub fn behind_entry(closing: u8, text: &[u8]) -> Result<&[u8], Refusal>
+    ensures { Follows result (behind_next (nat_eq closing 125) (tokens text.now)) }
 {
-    let after = skip_literal(MAX_VALUE_DEPTH, text)?;
-    Ok(skip_comma(after))
-}
-
-/// What follows a pair among others, and the comma after it.
-pub fn behind_pair(text: &[u8]) -> Result<&[u8], Refusal>
-    ensures { Follows result (behind_entry (pair_in value_in) (tokens text.now)) }
-{
-    let after = skip_pair(MAX_VALUE_DEPTH, text)?;
+    let after = skip_entry(MAX_VALUE_DEPTH, closing, text)?;
     Ok(skip_comma(after))
 }

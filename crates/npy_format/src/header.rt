@@ -1,9 +1,9 @@
 //! The header of a file.
 ghost use Rattle.std.specs.Prelude.{◌≡◌, List, ℕ, length, MatchResult, Ok, Err};
-ghost use Rattle.npy_format.specs.Clauses.{Answers, Gives, shape_of, tokens, Literal, Pair, dictionary_of, value_under, lengths_of, header_of, header, HeaderAnyTurns, string_at, is_string_token, truth_at, BeginsWith, Stands, HasPairs, HasLengths};
+ghost use Rattle.npy_format.specs.Clauses.{Answers, Gives, shape_of, tokens, Literal, Pair, dictionary_of, value_under, header_of, header, HeaderAnyTurns, string_at, is_string_token, truth_at, BeginsWith, Stands, HasPairs, shape_under};
 
 use crate::grammar::{
-    MAX_VALUE_DEPTH, behind_pair, integer, skip_comma, skip_key, skip_pairs, string, symbol,
+    MAX_VALUE_DEPTH, behind_entry, integer, skip_comma, skip_entries, skip_key, string, symbol,
 };
 use crate::record_list::descr;
 use crate::token::{Token, next_token};
@@ -27,7 +27,7 @@ fn dictionary(text: &[u8]) -> Result<&[u8], Refusal>
     let Some(pairs) = symbol(b'{', text) else {
         return Err(Refusal::BadHeader);
     };
-    let rest = skip_pairs(MAX_VALUE_DEPTH, pairs)?;
+    let rest = skip_entries(MAX_VALUE_DEPTH, b'}', pairs)?;
     if next_token(rest).is_some() {
         return Err(Refusal::BadHeader);
     }
@@ -41,7 +41,7 @@ fn pair_count(pairs: &[u8]) -> Result<usize, Refusal>
     let mut count = 0;
     let mut rest = pairs;
     while symbol(b'}', rest).is_none() {
-        rest = behind_pair(rest)?;
+        rest = behind_entry(b'}', rest)?;
         count += 1;
     }
     Ok(count)
@@ -67,7 +67,7 @@ fn value_under<'a>(key: &[u8], pairs: &'a [u8]) -> Result<&'a [u8], Refusal>
         if is_string(key, rest) {
             return skip_key(MAX_VALUE_DEPTH, rest);
         }
-        rest = behind_pair(rest)?;
+        rest = behind_entry(b'}', rest)?;
     }
     Err(Refusal::BadHeader)
 }
@@ -81,40 +81,27 @@ fn truth(text: &[u8]) -> Result<bool, Refusal>
     }
 }
 
-/// The text from the lengths on, if the value is a tuple of integers.
-fn lengths(text: &[u8]) -> Result<&[u8], Refusal>
+/// The lengths that the value, a tuple of integers, gives a shape: all of them, or one more than a
+/// shape may have.
+fn lengths(alloc: Global, text: &[u8]) -> Result<Vec<usize>, Refusal>
     ensures { (value : Literal) → Stands (tokens text.now) value →
-        BeginsWith HasLengths result (lengths_of value) }
+        Gives (λ axes. shape_of axes.items) result (shape_under value) }
 {
     let Some(inside) = symbol(b'(', text) else {
         return Err(Refusal::BadHeader);
     };
+    let mut axes = Vec::new(alloc);
     let mut rest = inside;
-    while let Some((_, after)) = integer(rest) {
+    while let Some((digits, after)) = integer(rest) {
+        if axes.len() <= MAX_AXES {
+            axes.push(capped_value(digits, MAX_ITEMS))?;
+        }
         rest = skip_comma(after);
     }
     if symbol(b')', rest).is_none() {
         return Err(Refusal::BadHeader);
     }
-    Ok(inside)
-}
-
-/// The shape with these lengths. It holds at most as many as a shape may have, and one more if
-/// there are too many.
-fn shape(alloc: Global, lengths: &[u8]) -> Result<Shape, Refusal>
-    ensures { (found : List ℕ) →
-        HasLengths (tokens lengths.now) found → Gives (λ shape. shape) result (shape_of found) }
-{
-    let mut axes = Vec::new(alloc);
-    let mut rest = lengths;
-    while let Some((digits, after)) = integer(rest) {
-        if axes.len() == MAX_AXES {
-            return Err(Refusal::TooManyAxes);
-        }
-        axes.push(capped_value(digits, MAX_ITEMS))?;
-        rest = skip_comma(after);
-    }
-    Shape::try_new(alloc, axes.as_slice())
+    Ok(axes)
 }
 
 /// What the pairs of a header say.
@@ -130,9 +117,9 @@ fn header_of(alloc: Global, pairs: &[u8]) -> Result<Header, Refusal>
     let order = value_under(b"fortran_order", pairs)?;
     let fortran = truth(order)?;
     let tuple = value_under(b"shape", pairs)?;
-    let lengths = lengths(tuple)?;
+    let axes = lengths(alloc, tuple)?;
     let descr = descr(alloc, element)?;
-    let shape = shape(alloc, lengths)?;
+    let shape = Shape::try_new(alloc, axes.as_slice())?;
     Ok(Header {
         descr,
         fortran,

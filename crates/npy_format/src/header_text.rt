@@ -7,15 +7,6 @@ use itoa::Buffer;
 use shape_strides::Shape;
 use std::alloc::{AllocError, Global};
 
-fn push_separator(text: &mut Vec<u8>, is_first: bool) -> Result<(), AllocError>
-    ensures { OnOk result (text.new.items ≡ text.old.items ++ entry_separator is_first) }
-{
-    if is_first {
-        return Ok(());
-    }
-    text.extend_from_slice(b", ")
-}
-
 /// A string between apostrophes.
 fn push_quoted(text: &mut Vec<u8>, bytes: &[u8]) -> Result<(), AllocError>
     ensures { OnOk result (text.new.items ≡ text.old.items ++ quoted bytes.now) }
@@ -31,7 +22,9 @@ fn push_name(text: &mut Vec<u8>, is_first: bool, name: &[u8]) -> Result<(), Allo
     ensures { OnOk result
         (text.new.items ≡ text.old.items ++ (entry_separator is_first ++ opened_entry name.now)) }
 {
-    push_separator(text, is_first)?;
+    if !is_first {
+        text.extend_from_slice(b", ")?;
+    }
     text.push(b'(')?;
     push_quoted(text, name)?;
     text.extend_from_slice(b", ")

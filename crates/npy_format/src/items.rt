@@ -1,6 +1,6 @@
 //! Appends the bytes of items as a file stores them: a bool is 0 or 1, and padding is zero.
 ghost use Rattle.std.specs.Prelude.{All, IfOk, IsTrue, OnOk, length, pos, replicate, ◌*◌, ◌++◌, ◌+◌, ◌-◌, ◌<ℤ◌, ◌<◌, ◌^◌, ◌||◌, ◌≡◌, ◌≤ℤ◌, ◌≤◌};
-ghost use Rattle.npy_format.specs.Clauses.{AreInOrder, EachWithin, blocks, count, decode_item, encode_item, is_c_contiguous, is_f_contiguous, item_at, item_size, leaves_of, max_bytes, offsets, place, position, put, run_offsets, IsPlain, addresses_in_file, as_in_file, capped, gathered, limit, limits_from, flat_map, repeat};
+ghost use Rattle.npy_format.specs.Clauses.{AreInOrder, EachWithin, blocks, count, decode_item, encode_item, is_c_contiguous, is_f_contiguous, item_at, item_size, leaves_of, max_bytes, offsets, place, position, put, run_offsets, addresses_in_file, as_in_file, capped, gathered, limit, limits_from, flat_map, repeat};
 
 use elem_descr::{Descr, Leaf, Scalar};
 use shape_strides::{Layout, Run, Runs};
@@ -17,12 +17,12 @@ fn place(run: Run, k: usize) -> usize
     (run.offset as isize + k as isize * run.step) as usize
 }
 
-/// Appends `len` bytes.
-fn push_stretch(file: &mut Vec<u8>, bytes: &[u8], at: usize, len: usize) -> Result<(), AllocError>
+/// The `len` bytes from `at` on.
+pub(crate) fn stretch(bytes: &[u8], at: usize, len: usize) -> &[u8]
     requires { at + len ≤ length bytes.now }
-    ensures { OnOk result (file.new.items ≡ file.old.items ++ item_at at len bytes.now) }
+    ensures { result.now ≡ item_at at len bytes.now }
 {
-    file.extend_from_slice(&bytes[at..at + len])
+    &bytes[at..at + len]
 }
 
 /// Whether items of `width` bytes are adjacent.
@@ -43,11 +43,10 @@ fn push_run(file: &mut Vec<u8>, bytes: &[u8], run: Run, width: usize) -> Result<
         (file.new.items ≡ file.old.items ++ gathered width bytes.now (run_offsets run)) }
 {
     if is_adjacent(run, width) {
-        return push_stretch(file, bytes, run.offset, run.count * width);
+        return file.extend_from_slice(stretch(bytes, run.offset, run.count * width));
     }
     for k in 0..run.count {
-        let at = place(run, k);
-        file.extend_from_slice(&bytes[at..at + width])?;
+        file.extend_from_slice(stretch(bytes, place(run, k), width))?;
     }
     Ok(())
 }
@@ -76,7 +75,7 @@ pub(crate) fn push_items(
 {
     let count = layout.shape.items();
     if are_together(layout, width) {
-        return push_stretch(file, bytes, layout.first_address(), count * width);
+        return file.extend_from_slice(stretch(bytes, layout.first_address(), count * width));
     }
     for run in Runs::new(layout) {
         push_run(file, bytes, run, width)?;
@@ -91,36 +90,6 @@ fn limit(scalar: &Scalar) -> u8
     match scalar {
         Scalar::Bool => 1,
         _ => 255,
-    }
-}
-
-/// Whether leaves fill an item of `bytes` bytes, and none is a bool.
-fn is_plain(leaves: &[Leaf], bytes: usize) -> bool
-    requires in_order { AreInOrder 0 leaves.now bytes }
-    requires small { bytes ≤ 65536 }
-    ensures { IsTrue result → IsPlain 0 leaves.now bytes }
-{
-    let mut end = 0;
-    for leaf in leaves {
-        if leaf.at != end || limit(&leaf.scalar) != 255 {
-            return false;
-        }
-        end += leaf.scalar.size();
-    }
-    end == bytes
-}
-
-/// Whether items are written as they are: leaves fill them, and none is a bool.
-pub(crate) fn are_plain(descr: &Descr) -> bool
-    ensures plain { IsTrue result → IsPlain 0 (leaves_of descr.now) (item_size descr.now) }
-    ensures in_order { AreInOrder 0 (leaves_of descr.now) (item_size descr.now) }
-{
-    match descr {
-        Descr::Scalar(scalar) => {
-            let _size = scalar.size();
-            limit(scalar) == 255
-        }
-        Descr::Record(whole) => is_plain(whole.leaves(), whole.size()),
     }
 }
 
@@ -154,9 +123,10 @@ fn limits(alloc: Global, leaves: &[Leaf], bytes: usize) -> Result<Vec<u8>, Alloc
 }
 
 /// The limits of the bytes of an item of an element type.
-fn item_limits(alloc: Global, descr: &Descr) -> Result<Vec<u8>, AllocError>
-    ensures { IfOk result
+pub(crate) fn item_limits(alloc: Global, descr: &Descr) -> Result<Vec<u8>, AllocError>
+    ensures limits { IfOk result
         (λ limits. limits.items ≡ limits_from 0 (leaves_of descr.now) (item_size descr.now)) }
+    ensures in_order { AreInOrder 0 (leaves_of descr.now) (item_size descr.now) }
 {
     match descr {
         Descr::Scalar(scalar) => {
@@ -168,6 +138,13 @@ fn item_limits(alloc: Global, descr: &Descr) -> Result<Vec<u8>, AllocError>
         }
         Descr::Record(whole) => limits(alloc, whole.leaves(), whole.size()),
     }
+}
+
+/// Whether items with these limits are written as they are.
+pub(crate) fn are_plain(limits: &[u8]) -> bool
+    ensures { IsTrue result → All (λ limit. limit ≡ 255) limits.now }
+{
+    limits.iter().all(|limit| *limit == 255)
 }
 
 /// Caps each byte at its limit.
@@ -202,21 +179,23 @@ fn cap_each(bytes: &mut [u8], limits: &[u8])
     }
 }
 
-/// Writes `count` adjacent items as a file stores them.
+/// Writes `count` adjacent items, whose bytes have these limits, as a file stores them.
 pub(crate) fn write_items(
     alloc: Global,
     bytes: &mut [u8],
     count: usize,
     descr: &Descr,
+    limits: &[u8],
 ) -> Result<(), AllocError>
-    requires { length bytes.old ≡ count * item_size descr.now }
+    requires len { length bytes.old ≡ count * item_size descr.now }
+    requires in_order { AreInOrder 0 (leaves_of descr.now) (item_size descr.now) }
+    requires limits { limits.now ≡ limits_from 0 (leaves_of descr.now) (item_size descr.now) }
     ensures { OnOk result (bytes.new ≡ as_in_file descr.now count bytes.old) }
 {
-    if are_plain(descr) {
+    if are_plain(limits) {
         return Ok(());
     }
     let _len = bytes.len();
-    let limits = item_limits(alloc, descr)?;
     // (a loop over some hundred bytes at once takes far fewer instructions than one over each item)
     let many = limits.repeat(alloc, count.min(512 / descr.size()) + 1)?;
     cap_each(bytes, many.as_slice());

@@ -2,7 +2,7 @@
 ghost use Rattle.std.specs.Prelude.{◌≡◌, ◌≤◌, ℕ, List, IfOk, MatchOption, Some, None};
 ghost use Rattle.npy_format.specs.Clauses.{Answers, Gives, value_of, max_depth, max_leaves, IsShallow, pad_kind, scalar_in, type_in, field_in, entry_in, record_in, descr_in, Literal, tokens, string_at, pad_at, Stands, HasValues, entry_parts};
 
-use crate::grammar::{behind_value, string, symbol};
+use crate::grammar::{behind_entry, string, symbol};
 use elem_descr::{
     Descr, FieldName, MAX_DEPTH, MAX_ITEM_SIZE, Record, RecordBuilder, Refusal, are_digits,
     capped_value, is_legal_name, marked, typestr_read,
@@ -91,7 +91,7 @@ fn entry_parts(entry: &[u8]) -> Option<(&[u8], &[u8])>
     let inside = symbol(b'(', entry)?;
     let (name, behind) = string(inside)?;
     let kind = symbol(b',', behind)?;
-    let Ok(rest) = behind_value(kind) else {
+    let Ok(rest) = behind_entry(b')', kind) else {
         return None;
     };
     symbol(b')', rest)?;
@@ -132,7 +132,7 @@ fn record(alloc: Global, levels: usize, leaves: usize, entries: &[u8]) -> Result
     let mut rest = entries;
     while symbol(b']', rest).is_none() {
         add_entry(alloc, &mut builder, rest)?;
-        rest = behind_value(rest)?;
+        rest = behind_entry(b']', rest)?;
     }
     builder.close(alloc, false)
 }

@@ -4,7 +4,7 @@ ghost use Rattle.npy_format.specs.Clauses.{TooLarge, Gives, item_size, item_from
 
 use crate::file_header::file_header;
 use crate::header_text::header_text;
-use crate::items::{are_plain, are_together, push_items, write_items};
+use crate::items::{are_plain, are_together, item_limits, push_items, stretch, write_items};
 use elem_descr::{Descr, Refusal};
 use raw_block::RawBlock;
 use shape_strides::{Layout, MAX_BYTES};
@@ -41,14 +41,6 @@ fn header(
     let fortran = is_fortran(layout, width);
     let text = header_text(alloc, descr, fortran, &layout.shape)?;
     file_header(alloc, text.as_slice())
-}
-
-/// The `len` bytes from `at` on.
-fn stretch(bytes: &[u8], at: usize, len: usize) -> &[u8]
-    requires { at + len ≤ length bytes.now }
-    ensures { result.now ≡ item_at at len bytes.now }
-{
-    &bytes[at..at + len]
 }
 
 /// What holds for an element type.
@@ -102,7 +94,8 @@ pub fn npy_parts<'a>(
         return Err(Refusal::TooLarge);
     }
     let mut front = header(alloc, descr, layout, width)?;
-    if are_plain(descr) && are_together(layout, width) {
+    let limits = item_limits(alloc, descr)?;
+    if are_plain(&limits) && are_together(layout, width) {
         let items = stretch(bytes, layout.first_address(), len);
         return Ok(SavedParts { front, items });
     }
@@ -114,6 +107,7 @@ pub fn npy_parts<'a>(
         &mut front.as_mut_slice()[start..],
         layout.shape.items(),
         descr,
+        &limits,
     )?;
     Ok(SavedParts { front, items: &[] })
 }

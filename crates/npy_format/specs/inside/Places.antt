@@ -1,11 +1,11 @@
 -- Tokens of a header that begin with some of its values.
 use Rattle.std.specs.Prelude.{◌≡◌, ℕ, List, [], ◌∷◌, Option, Some, None, Result, Ok, Err, MatchResult}
-use Rattle.npy_format.specs.Words.{Bor, Refusal}
+use Rattle.npy_format.specs.Words.{Bor, Refusal, ◌>>=◌, shape_of}
 use Rattle.npy_format.specs.Values.{Text, Round}
 use Rattle.npy_format.specs.Listed.{Literal, Plain, Row, Pair, value_literals}
 use Rattle.npy_format.specs.Tokens.{Token, tokens}
 use Rattle.npy_format.specs.Literals.{Read, entries_in, pair_in, literal_in}
-use Rattle.npy_format.specs.Headers.{max_value_depth, integers_of}
+use Rattle.npy_format.specs.Headers.{max_value_depth, lengths_of}
 
 abbrev pub value_in : List Token → Read Literal
 value_in = literal_in max_value_depth
@@ -29,11 +29,9 @@ HasValues closing tokens values = StandIn Literal value_in closing tokens values
 abbrev pub HasPairs : List Token → List Pair → Type 0
 HasPairs tokens pairs = StandIn Pair (pair_in value_in) 125 tokens pairs
 
--- the tokens begin with the integers of a tuple and its closing parenthesis
-pub record HasLengths (tokens : List Token) (lengths : List ℕ) : Type 0 where
-  pub values : List Literal
-  pub stand : HasValues 41 tokens values
-  pub are : integers_of values ≡ Ok lengths
+-- the shape with the lengths of a tuple, or why there is none
+abbrev pub shape_under : Literal → Result (Result (List ℕ) Refusal) Refusal
+shape_under value = lengths_of value >>= λ lengths. Ok (shape_of lengths)
 
 -- A call returns a text that begins with what is found in `there`, or the same refusal.
 abbrev pub BeginsWith : {A : Type 0} → (List Token → A → Type 0) → Result (Bor (List ℕ)) Refusal → Result A Refusal → Type 0

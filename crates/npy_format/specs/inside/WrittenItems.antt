@@ -1,5 +1,5 @@
 -- Items as a file stores them, computed from their bytes in memory.
-use Rattle.std.specs.Prelude.{◌≡◌, ℕ, ◌+◌, ◌-◌, min, List, [], ◌∷◌, ◌++◌, map, replicate, if◌then◌else◌}
+use Rattle.std.specs.Prelude.{ℕ, ◌+◌, ◌-◌, min, List, [], ◌∷◌, ◌++◌, map, replicate, if◌then◌else◌}
 use Rattle.npy_format.specs.Words.{flat_map, item_at, Descr, Leaf, Scalar, Byte, Int, Bytes, LeafValue, size, decode, item_size, decode_item, encode_item, encode_from, blocks, fortran_order, BoolScalar}
 use Rattle.npy_format.specs.WrittenFiles.{is_fortran}
 
@@ -29,11 +29,6 @@ abbrev pub capped : List ℕ → List ℕ → List ℕ
 capped [] limits = []
 capped (byte ∷ bytes) [] = byte ∷ bytes
 capped (byte ∷ bytes) (limit ∷ limits) = min byte limit ∷ capped bytes limits
-
--- From byte `from` on, leaves fill all bytes, and none is a bool. Such an item is written as it is.
-abbrev pub IsPlain : ℕ → List Leaf → ℕ → Type 0
-IsPlain from [] bytes = from ≡ bytes
-IsPlain from (leaf ∷ leaves) bytes = (leaf.at ≡ from) × (limit leaf.scalar ≡ 255) × IsPlain (from + size leaf.scalar) leaves bytes
 
 -- the addresses of items in the order in which a file stores them
 abbrev pub addresses_in_file : ℕ → List ℕ → List ℕ → List ℕ

@@ -1,20 +1,22 @@
 -- The refusals of a header, in order.
-use Rattle.std.proofs.Common.{◌≡◌, ◌∙◌, ⊎_elim, inl, inr, sym, length, arith}
-use Rattle.npy_format.proofs.Words.{err_from_is_err_and, tokens}
+use Rattle.std.proofs.Common.{◌≡◌, ◌∙◌, ⊎_elim, inl, inr, ap, refl, sym, length, arith}
+use Rattle.npy_format.proofs.Words.{err_from_is_err_and, shape_of, descr_in, lengths_of, header_of, tokens}
 use Rattle.npy_format.proofs.StandLaws.{truth_is}
-use Rattle.npy_format.proofs.HeaderLaws.{no_truth, no_shape, no_lengths, no_descr, shape_refused, header_said}
+use Rattle.npy_format.proofs.HeaderLaws.{no_lengths, shape_found, or_refused}
 use Rattle.npy_format.proofs.header.header_of.Goals as goal
 
 pub returns-in_err-fortran : goal.returns-in_err-fortran
+unfolding header_of
 returns-in_err-fortran c = λ pairs s.
     let n : c.in_ok-pair_count.field-0 ≡ length pairs = (let e = c.in_ok-pair_count.ensures pairs s in cc) in
     let three : length pairs ≡ 3 = omega (arith, n, c.if-branch-ne3.false) in
     let el = c.in_ok-element.ensures pairs s in
     let or = c.in_ok-order.ensures pairs s in
     let p = err_from_is_err_and c.from_residual-in_err-fortran.result c.from_residual-in_err-fortran.ensures.1 in
-    rw (p.1, p.2) (inr (no_truth pairs three el.0 el.1 or.0 or.1 _ (sym (truth_is (tokens c.in_ok-order.order.now) or.0 or.2) ∙ sym c.in_err-fortran.ensures)))
+    rw (p.1, p.2) (inr (rw (three, el.1, or.1, sym (truth_is (tokens c.in_ok-order.order.now) or.0 or.2) ∙ sym c.in_err-fortran.ensures) refl))
 
 pub returns-in_err-tuple : goal.returns-in_err-tuple
+unfolding header_of
 returns-in_err-tuple c = λ pairs s.
     let n : c.in_ok-pair_count.field-0 ≡ length pairs = (let e = c.in_ok-pair_count.ensures pairs s in cc) in
     let three : length pairs ≡ 3 = omega (arith, n, c.if-branch-ne3.false) in
@@ -22,20 +24,22 @@ returns-in_err-tuple c = λ pairs s.
     let or = c.in_ok-order.ensures pairs s in
     let truth = sym (truth_is (tokens c.in_ok-order.order.now) or.0 or.2) ∙ sym c.in_ok-fortran.ensures in
     let p = err_from_is_err_and c.from_residual-in_err-tuple.result c.from_residual-in_err-tuple.ensures.1 in
-    rw (p.1, p.2) (inr (no_shape pairs three el.0 el.1 or.0 or.1 c.in_ok-fortran.fortran truth _ (c.in_err-tuple.ensures pairs s)))
+    rw (p.1, p.2) (inr (rw (three, el.1, or.1, truth, c.in_err-tuple.ensures pairs s) refl))
 
-pub returns-in_err-lengths : goal.returns-in_err-lengths
-returns-in_err-lengths c = λ pairs s.
+pub returns-in_err-axes : goal.returns-in_err-axes
+unfolding header_of
+returns-in_err-axes c = λ pairs s.
     let n : c.in_ok-pair_count.field-0 ≡ length pairs = (let e = c.in_ok-pair_count.ensures pairs s in cc) in
     let three : length pairs ≡ 3 = omega (arith, n, c.if-branch-ne3.false) in
     let el = c.in_ok-element.ensures pairs s in
     let or = c.in_ok-order.ensures pairs s in
     let truth = sym (truth_is (tokens c.in_ok-order.order.now) or.0 or.2) ∙ sym c.in_ok-fortran.ensures in
     let tu = c.in_ok-tuple.ensures pairs s in
-    let p = err_from_is_err_and c.from_residual-in_err-lengths.result c.from_residual-in_err-lengths.ensures.1 in
-    rw (p.1, p.2) (inr (no_lengths pairs three el.0 el.1 or.0 or.1 c.in_ok-fortran.fortran truth tu.0 tu.1 _ (c.in_err-lengths.ensures tu.0 tu.2)))
+    let p = err_from_is_err_and c.from_residual-in_err-axes.result c.from_residual-in_err-axes.ensures.1 in
+    rw (p.1, p.2, three, el.1, or.1, truth, tu.1) (or_refused _ (lengths_of tu.0) _ (⊎_elim inl (λ e. inr (no_lengths tu.0 _ e)) (c.in_err-axes.ensures tu.0 tu.2)))
 
 pub returns-in_err-descr : goal.returns-in_err-descr
+unfolding header_of
 returns-in_err-descr c = λ pairs s.
     let n : c.in_ok-pair_count.field-0 ≡ length pairs = (let e = c.in_ok-pair_count.ensures pairs s in cc) in
     let three : length pairs ≡ 3 = omega (arith, n, c.if-branch-ne3.false) in
@@ -43,11 +47,12 @@ returns-in_err-descr c = λ pairs s.
     let or = c.in_ok-order.ensures pairs s in
     let truth = sym (truth_is (tokens c.in_ok-order.order.now) or.0 or.2) ∙ sym c.in_ok-fortran.ensures in
     let tu = c.in_ok-tuple.ensures pairs s in
-    let ls = c.in_ok-lengths.ensures tu.0 tu.2 in
+    let ls = shape_found tu.0 _ (c.in_ok-axes.ensures tu.0 tu.2) in
     let p = err_from_is_err_and c.from_residual-in_err-descr.result c.from_residual-in_err-descr.ensures.1 in
-    rw (p.1, p.2) (⊎_elim inl (λ e. inr (no_descr pairs three el.0 el.1 or.0 or.1 c.in_ok-fortran.fortran truth tu.0 tu.1 ls.0 ls.1 _ e)) (c.in_err-descr.ensures el.0 el.2))
+    rw (p.1, p.2, three, el.1, or.1, truth, tu.1, ls.1) (or_refused _ (descr_in el.0) _ (c.in_err-descr.ensures el.0 el.2))
 
 pub returns-in_err-shape : goal.returns-in_err-shape
+unfolding header_of
 returns-in_err-shape c = λ pairs s.
     let n : c.in_ok-pair_count.field-0 ≡ length pairs = (let e = c.in_ok-pair_count.ensures pairs s in cc) in
     let three : length pairs ≡ 3 = omega (arith, n, c.if-branch-ne3.false) in
@@ -55,12 +60,13 @@ returns-in_err-shape c = λ pairs s.
     let or = c.in_ok-order.ensures pairs s in
     let truth = sym (truth_is (tokens c.in_ok-order.order.now) or.0 or.2) ∙ sym c.in_ok-fortran.ensures in
     let tu = c.in_ok-tuple.ensures pairs s in
-    let ls = c.in_ok-lengths.ensures tu.0 tu.2 in
+    let ls = shape_found tu.0 _ (c.in_ok-axes.ensures tu.0 tu.2) in
     let de = c.in_ok-descr.ensures el.0 el.2 in
     let p = err_from_is_err_and c.from_residual-in_err-shape.result c.from_residual-in_err-shape.ensures.1 in
-    rw (p.1, p.2) (⊎_elim inl (λ e. inr (shape_refused pairs three el.0 el.1 or.0 or.1 c.in_ok-fortran.fortran truth tu.0 tu.1 ls.0 ls.1 c.in_ok-descr.descr de _ e)) (c.in_err-shape.ensures ls.0 ls.2))
+    rw (p.1, p.2, three, el.1, or.1, truth, tu.1, ls.1, de, ls.2 ∙ ap shape_of (sym c.as_slice.ensures.value)) (or_refused _ (shape_of c.as_slice.result.now) _ c.in_err-shape.ensures)
 
 pub returns : goal.returns
+unfolding header_of
 returns c = λ pairs s.
     let n : c.in_ok-pair_count.field-0 ≡ length pairs = (let e = c.in_ok-pair_count.ensures pairs s in cc) in
     let three : length pairs ≡ 3 = omega (arith, n, c.if-branch-ne3.false) in
@@ -68,6 +74,6 @@ returns c = λ pairs s.
     let or = c.in_ok-order.ensures pairs s in
     let truth = sym (truth_is (tokens c.in_ok-order.order.now) or.0 or.2) ∙ sym c.in_ok-fortran.ensures in
     let tu = c.in_ok-tuple.ensures pairs s in
-    let ls = c.in_ok-lengths.ensures tu.0 tu.2 in
+    let ls = shape_found tu.0 _ (c.in_ok-axes.ensures tu.0 tu.2) in
     let de = c.in_ok-descr.ensures el.0 el.2 in
-    header_said pairs three el.0 el.1 or.0 or.1 c.in_ok-fortran.fortran truth tu.0 tu.1 ls.0 ls.1 c.in_ok-descr.descr de c.in_ok-shape.shape (c.in_ok-shape.ensures ls.0 ls.2)
+    rw (three, el.1, or.1, truth, tu.1, ls.1, de, ls.2 ∙ ap shape_of (sym c.as_slice.ensures.value) ∙ c.in_ok-shape.ensures) refl

@@ -1,9 +1,9 @@
-use Rattle.std.proofs.Common.{◌≡◌, ◌∙◌, ⊎_elim, inl, inr, ap, sym, true, false, Ok, arith, rules}
-use Rattle.npy_format.proofs.Words.{err_from_is_err_and, RecordDescr, is_legal_name, ◌>>=◌, is_empty, Partial, tokens, symbol_token_at, type_in, record_in, value_in}
+use Rattle.std.proofs.Common.{◌≡◌, ◌∙◌, ⊎_elim, inl, inr, ap, refl, sym, true, false, Ok, arith, rules}
+use Rattle.npy_format.proofs.Words.{err_from_is_err_and, RecordDescr, is_legal_name, ◌>>=◌, is_empty, Partial, tokens, symbol_token_at, type_in, field_in, record_in, value_in}
 use Rattle.npy_format.proofs.GrammarLaws.{literal_leaves}
 use Rattle.npy_format.proofs.StandLaws.{symbol_open, symbol_closed, string_stands, list_stands, no_type, pad_is}
-use Rattle.npy_format.proofs.HeaderLaws.{entry_shorter}
-use Rattle.npy_format.proofs.RecordListLaws.{no_levels, fields_begin, fields_closed, fields_read, fields_next, fields_refused, gives_same, gives_answer, gives_value, list_type, parts_in, entry_means, entry_pad, entry_field, field_illegal, field_untyped, field_taken, field_added}
+use Rattle.npy_format.proofs.HeaderLaws.{entry_shorter, or_refused}
+use Rattle.npy_format.proofs.RecordListLaws.{fields_begin, fields_closed, fields_read, fields_next, fields_refused, gives_same, gives_answer, gives_value, list_type, parts_in, entry_means, entry_pad, entry_field, field_added}
 use Rattle.npy_format.proofs.record_list.+record.Goals as goal
 
 pub add_entry-returns-in_default-clause-gives : goal.add_entry-returns-in_default-clause-gives
@@ -22,30 +22,33 @@ add_entry-returns-clause-gives t c = λ v s.
     gives_same _ _ _ _ (entry_field (record_in c.args.builder.now.levels) c.args.builder.now v c.in-Some.name.now parts.0 parts.1 some) (c.add_field.ensures.gives parts.0 parts.2)
 
 pub add_field-returns-then-not-is_legal_name-clause-gives : goal.add_field-returns-then-not-is_legal_name-clause-gives
+unfolding field_in
 add_field-returns-then-not-is_legal_name-clause-gives t c = λ v s.
     let no_name : is_legal_name c.args.name.now ≡ false = search rules in
-    inr (field_illegal (record_in c.args.builder.now.levels) c.args.builder.now c.args.name.now v no_name)
+    inr (rw no_name refl)
 
 pub add_field-returns-in_err-descr-clause-gives : goal.add_field-returns-in_err-descr-clause-gives
+unfolding field_in
 add_field-returns-in_err-descr-clause-gives t c = λ v s.
     let legal : is_legal_name c.args.name.now ≡ true = search rules in
     let p = err_from_is_err_and c.from_residual.result c.from_residual.ensures.1 in
     let refused = rw (c.levels.ensures.value, c.leaves.ensures.value) at (c.in_err-descr.ensures.gives v s) in
-    rw (p.1, p.2) (⊎_elim inl (λ e. inr (field_untyped (record_in c.args.builder.now.levels) c.args.builder.now c.args.name.now v legal _ e)) refused)
+    rw (p.1, p.2, legal) (or_refused _ (type_in (record_in c.args.builder.now.levels c.args.builder.now.leaves) v) _ refused)
 
 pub add_field-returns-in_err-check_name-clause-gives : goal.add_field-returns-in_err-check_name-clause-gives
+unfolding field_in
 add_field-returns-in_err-check_name-clause-gives t c = λ v s.
     let legal : is_legal_name c.args.name.now ≡ true = search rules in
     let p = err_from_is_err_and c.from_residual-in_err-check_name.result c.from_residual-in_err-check_name.ensures.1 in
     let means = rw (c.levels.ensures.value, c.leaves.ensures.value) at (c.in_ok-descr.ensures.gives v s) in
-    rw (p.1, p.2) (inr (field_taken (record_in c.args.builder.now.levels) c.args.builder.now c.args.name.now v legal c.in_ok-descr.descr means _ c.in_err-check_name.ensures.answers))
+    rw (p.1, p.2) (inr (rw (legal, means, c.in_err-check_name.ensures.answers) refl))
 
 pub add_field-returns-clause-gives : goal.add_field-returns-clause-gives
 add_field-returns-clause-gives t c = λ v s.
     let legal : is_legal_name c.args.name.now ≡ true = search rules in
     let means = rw (c.levels.ensures.value, c.leaves.ensures.value) at (c.in_ok-descr.ensures.gives v s) in
     let added = rw c.in_ok-name.ensures at c.add.ensures.gives in
-    gives_same _ _ _ _ (field_added (record_in c.args.builder.now.levels) c.args.builder.now c.args.name.now v legal c.in_ok-descr.descr means c.in_ok-check_name.ensures.answers) added
+    gives_same _ _ _ _ (field_added (record_in c.args.builder.now.levels) c.args.builder.now c.args.name.now v c.in_ok-descr.descr legal means c.in_ok-check_name.ensures.answers) added
 
 pub field_type-returns-in-Some-clause-gives : goal.field_type-returns-in-Some-clause-gives
 field_type-returns-in-Some-clause-gives t c = λ v s. gives_value _ _ (ap (type_in (record_in c.args.levels c.args.leaves)) (string_stands (tokens c.args.kind.now) v s (c.in-Some.kind.now, tokens c.in-Some.field-0-1.now) c.in-Some.ensures) ∙ sym c.scalar.ensures.value)
@@ -65,7 +68,8 @@ field_type-returns-clause-gives t c = λ v s.
     list_type (record_in c.args.levels c.args.leaves) v row.0 row.1 ∙ ap (λ r. r >>= λ whole. Ok (RecordDescr whole)) (c.in_ok-whole.ensures.gives row.0 row.2)
 
 pub record-returns-then-levels-eq0-clause-gives : goal.record-returns-then-levels-eq0-clause-gives
-record-returns-then-levels-eq0-clause-gives t c = λ values s. inr (no_levels c.args.levels c.args.leaves values c.if-levels-eq0.true)
+unfolding record_in
+record-returns-then-levels-eq0-clause-gives t c = λ values s. inr (rw c.if-levels-eq0.true refl)
 
 pub record-loop-rest-init : goal.record-loop-rest-init
 record-loop-rest-init t c =

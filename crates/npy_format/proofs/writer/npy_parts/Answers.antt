@@ -36,12 +36,12 @@ returns-then-are_together-clause-gives c =
     let front = c.in_ok-front.front.items in
     saved-small descr l.shape (offsets l) (map (item_from descr block) (offsets l)) (omega (arith, same, c.if-len-gt-MAX_BYTES.false)) ∙ ap (λ file. Ok file) (sym (
     ap (λ items. front ++ items) c.stretch-items.ensures
-    ∙ stretch_written descr l.shape (offsets l) bytes c.first_address.result (c.items.result * c.size-width.result) (length-offsets l) inside together c.first_address.ensures same front (c.are_plain.ensures.plain c.if-are_plain.true) c.are_plain.ensures.in_order c.will_load.ensures.bytes
+    ∙ stretch_written descr l.shape (offsets l) bytes c.first_address.result (c.items.result * c.size-width.result) (length-offsets l) inside together c.first_address.ensures same front (subst (All (λ limit. limit ≡ 255)) (c.deref.ensures.value ∙ c.in_ok-limits.ensures.limits) (c.are_plain.ensures c.if-are_plain.true)) c.in_ok-limits.ensures.in_order c.will_load.ensures.bytes
     ∙ ap (λ head. head ++ flat_map (encode_item descr) (ordered (file_order fortran) l.shape (map (item_from descr bytes) (offsets l)))) (c.in_ok-front.ensures ∙ ap (λ w. written_header (written_text descr (is_fortran w l.shape (offsets l)) l.shape)) c.size-width.ensures.value)
     ∙ ap (λ b. file_of descr fortran l.shape (map (item_from descr b) (offsets l))) c.bytes-bytes.ensures))
 
-pub write_items-requires : goal.write_items-requires
-write_items-requires c =
+pub write_items-requires-clause-len : goal.write_items-requires-clause-len
+write_items-requires-clause-len c =
     let l = c.args.layout.now in
     let descr = c.args.descr.now in
     let bytes = c.bytes-bytes.result.now in
