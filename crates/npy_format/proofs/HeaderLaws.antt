@@ -3,7 +3,7 @@ use Rattle.std.proofs.Common.{◌≡◌, ◌⊎◌, ⊎_elim, ◌≢◌, ◌≤�
 use Rattle.npy_format.proofs.Words.{ok_or, is_some, append-nil, length-map, map-append, Refusal, BadHeader, OutOfMemory, ◌>>=◌, Answers, bind_ok, max_items, shape_of, shape_of-many, shape_of-capped, Token, Literal, Pair, Row, all_listed_values, Round, Read, symbol_token_at, pair_in, entries_in, is_key, value_under, integers_of, lengths_of, dictionary_of, behind, behind_comma, behind_entry, behind_key, behind_entries, string_at, integer_at, is_string_token, HasPairs, HasValues, Stands, shape_under, value_in, cases_lt, take-append-le, take_all}
 use Rattle.npy_format.proofs.GrammarLaws.{Shortens, symbol_shorter}
 use Rattle.npy_format.proofs.SkipLaws.{behind_ok}
-use Rattle.npy_format.proofs.PlaceLaws.{stand_open, stand_closed, same_read}
+use Rattle.npy_format.proofs.PlaceLaws.{front_of, stand_open, stand_closed, same_read}
 use Rattle.npy_format.proofs.ValueLaws.{literals_of_listed}
 use Rattle.npy_format.proofs.StandLaws.{text_is, next_stands, is_read, no_integer, integer_stands, integer_front_is, no_44}
 
@@ -104,7 +104,7 @@ module _ (key : List ℕ) (whole : List Pair) (toks : List Token) (h : KeyLeft k
     key_next other rest reads =
         let p = one in
         let at = pair_stands toks p.2 p.0 p.3 in
-        let test : is_key key p.0 ≡ false = sym (text_is toks p.0.key at.1 key) ∙ other in
+        let test : is_key key p.0 ≡ false = sym (text_is key (front_of toks p.0.key at.1)) ∙ other in
         let w : Ok (behind_comma p.2) ≡ Ok rest = rw p.3 at reads in
         let same : behind_comma p.2 ≡ rest = cc in
         record {
@@ -118,7 +118,7 @@ module _ (key : List ℕ) (whole : List Pair) (toks : List Token) (h : KeyLeft k
       key_found place reads =
           let p = one in
           let at = pair_stands toks p.2 p.0 p.3 in
-          let test : is_key key p.0 ≡ true = sym (text_is toks p.0.key at.1 key) ∙ it in
+          let test : is_key key p.0 ≡ true = sym (text_is key (front_of toks p.0.key at.1)) ∙ it in
           let w : Ok at.0 ≡ Ok place = sym at.2 ∙ reads in
           let same : at.0 ≡ place = cc in
           (p.0.value, p.4 ∙ ap (λ (b : Bool). if b then Ok p.0.value else value_under key p.1) test, subst (λ (l : List Token). Stands l p.0.value) same at.3)
@@ -161,7 +161,7 @@ module _ (values : List Literal) (axes : List ℕ) (toks : List Token) (h : Leng
   pub lengths_bad : None ≡ integer_at toks → None ≡ symbol_token_at 41 toks → (integers_of values >>= λ ns. Ok (shape_of ns)) ≡ Err BadHeader
   lengths_bad none open' =
       let next = stand_open value_in 41 toks h.left no_44 h.stand open' in
-      let refused = no_integer toks next.first (record { rest = next.after; is = next.reads }) none next.others in
+      let refused = no_integer none next.others (front_of toks next.first (record { rest = next.after; is = next.reads })) in
       ap (λ (r : Result (List ℕ) Refusal). r >>= λ ns. Ok (shape_of ns)) (h.same ∙ ap (λ (r : Result (List ℕ) Refusal). r >>= λ ns. Ok (h.before ++ ns)) (ap integers_of next.is ∙ refused))
 
   module _ (found : ℕ × List Token) (is : Some found ≡ integer_at toks) where
@@ -170,7 +170,7 @@ module _ (values : List Literal) (axes : List ℕ) (toks : List Token) (h : Leng
         let front = integer_front_is toks found is in
         let open' : None ≡ symbol_token_at 41 toks = rw front refl in
         let next = stand_open value_in 41 toks h.left no_44 h.stand open' in
-        let stands = integer_stands toks next.first (record { rest = next.after; is = next.reads }) found is in
+        let stands = integer_stands found is (front_of toks next.first (record { rest = next.after; is = next.reads })) in
         record {
           left = next.others;
           stand = subst (λ (l : List Token). HasValues 41 (behind_comma l) next.others) stands.1 next.more;

@@ -16,158 +16,122 @@ symbol_closed (Some x) there some is = (tokens x.now, is)
 
 -- ---- plain values
 
-module _ (toks : List Token) (v : Literal) (s : Stands toks v) where
-  pub text_is : (key : List ℕ) → is_string_token key (string_at toks) ≡ is_string key v
-  text_is key = go (front_of toks v s)
-    where
-      go : Front toks v s.rest → is_string_token key (string_at toks) ≡ is_string key v
-      go (text_front bytes e e') = rw (e, e') refl
-      go (integer_front n e e') = rw (e, e') refl
-      go (truth_front truth e e') = rw (e, e') refl
-      go (nothing_front e e') = rw (e, e') refl
-      go (boxed_front b inside e (tuple_boxed vs at e' st)) = rw (e, e') refl
-      go (boxed_front b inside e (list_boxed vs at e' st)) = rw (e, e') refl
-      go (boxed_front b inside e (pairs_boxed at e')) = rw (e, e') refl
+module _ {toks : List Token} {v : Literal} {rest : List Token} where
+  pub text_is : (key : List ℕ) → Front toks v rest → is_string_token key (string_at toks) ≡ is_string key v
+  text_is key (text_front bytes e e') = rw (e, e') refl
+  text_is key (integer_front n e e') = rw (e, e') refl
+  text_is key (truth_front truth e e') = rw (e, e') refl
+  text_is key (nothing_front e e') = rw (e, e') refl
+  text_is key (boxed_front b inside e (tuple_boxed vs at e' st)) = rw (e, e') refl
+  text_is key (boxed_front b inside e (list_boxed vs at e' st)) = rw (e, e') refl
+  text_is key (boxed_front b inside e (pairs_boxed at e')) = rw (e, e') refl
 
-  pub truth_is : truth_at toks ≡ truth_of v
-  truth_is = go (front_of toks v s)
-    where
-      go : Front toks v s.rest → truth_at toks ≡ truth_of v
-      go (text_front bytes e e') = rw (e, e') refl
-      go (integer_front n e e') = rw (e, e') refl
-      go (truth_front truth e e') = rw (e, e') refl
-      go (nothing_front e e') = rw (e, e') refl
-      go (boxed_front b inside e (tuple_boxed vs at e' st)) = rw (e, e') refl
-      go (boxed_front b inside e (list_boxed vs at e' st)) = rw (e, e') refl
-      go (boxed_front b inside e (pairs_boxed at e')) = rw (e, e') refl
+  pub truth_is : Front toks v rest → truth_at toks ≡ truth_of v
+  truth_is (text_front bytes e e') = rw (e, e') refl
+  truth_is (integer_front n e e') = rw (e, e') refl
+  truth_is (truth_front truth e e') = rw (e, e') refl
+  truth_is (nothing_front e e') = rw (e, e') refl
+  truth_is (boxed_front b inside e (tuple_boxed vs at e' st)) = rw (e, e') refl
+  truth_is (boxed_front b inside e (list_boxed vs at e' st)) = rw (e, e') refl
+  truth_is (boxed_front b inside e (pairs_boxed at e')) = rw (e, e') refl
 
-  pub pad_is : (p : Partial) → pad_at p (string_at toks) ≡ pad_in p v
-  pad_is p = go (front_of toks v s)
-    where
-      go : Front toks v s.rest → pad_at p (string_at toks) ≡ pad_in p v
-      go (text_front bytes e e') = rw (e, e') refl
-      go (integer_front n e e') = rw (e, e') refl
-      go (truth_front truth e e') = rw (e, e') refl
-      go (nothing_front e e') = rw (e, e') refl
-      go (boxed_front b inside e (tuple_boxed vs at e' st)) = rw (e, e') refl
-      go (boxed_front b inside e (list_boxed vs at e' st)) = rw (e, e') refl
-      go (boxed_front b inside e (pairs_boxed at e')) = rw (e, e') refl
+  pub pad_is : (p : Partial) → Front toks v rest → pad_at p (string_at toks) ≡ pad_in p v
+  pad_is p (text_front bytes e e') = rw (e, e') refl
+  pad_is p (integer_front n e e') = rw (e, e') refl
+  pad_is p (truth_front truth e e') = rw (e, e') refl
+  pad_is p (nothing_front e e') = rw (e, e') refl
+  pad_is p (boxed_front b inside e (tuple_boxed vs at e' st)) = rw (e, e') refl
+  pad_is p (boxed_front b inside e (list_boxed vs at e' st)) = rw (e, e') refl
+  pad_is p (boxed_front b inside e (pairs_boxed at e')) = rw (e, e') refl
 
   -- ---- types
 
-  pub string_stands : (found : List ℕ × List Token) → Some found ≡ string_at toks → v ≡ Plain (Text found.0)
-  string_stands found is = go (front_of toks v s)
-    where
-      go : Front toks v s.rest → v ≡ Plain (Text found.0)
-      go (text_front bytes e e') = let w : Some found ≡ Some (bytes, s.rest) = rw e at is in let same : found ≡ (bytes, s.rest) = cc in e' ∙ ap (λ (f : List ℕ × List Token). Plain (Text f.0)) (sym same)
-      go (integer_front n e e') = let w = rw e at is in cc
-      go (truth_front truth e e') = let w = rw e at is in cc
-      go (nothing_front e e') = let w = rw e at is in cc
-      go (boxed_front b inside e box) = let w = rw e at is in cc
+  pub string_stands : (found : List ℕ × List Token) → Some found ≡ string_at toks → Front toks v rest → v ≡ Plain (Text found.0)
+  string_stands found is (text_front bytes e e') = let w : Some found ≡ Some (bytes, rest) = rw e at is in let same : found ≡ (bytes, rest) = cc in e' ∙ ap (λ (f : List ℕ × List Token). Plain (Text f.0)) (sym same)
+  string_stands found is (integer_front n e e') = let w = rw e at is in cc
+  string_stands found is (truth_front truth e e') = let w = rw e at is in cc
+  string_stands found is (nothing_front e e') = let w = rw e at is in cc
+  string_stands found is (boxed_front b inside e box) = let w = rw e at is in cc
 
-  pub list_stands : (inside : List Token) → Some inside ≡ symbol_token_at 91 toks → (vs : List Literal) × (v ≡ Row Square (all_listed_values vs)) × HasValues 93 inside vs
-  list_stands inside is = go (front_of toks v s)
-    where
-      go : Front toks v s.rest → (vs : List Literal) × (v ≡ Row Square (all_listed_values vs)) × HasValues 93 inside vs
-      go (text_front bytes e e') = let w = rw e at is in cc
-      go (integer_front n e e') = let w = rw e at is in cc
-      go (truth_front truth e e') = let w = rw e at is in cc
-      go (nothing_front e e') = let w = rw e at is in cc
-      go (boxed_front b inside' e (tuple_boxed vs at e' st)) = let w = rw (e, at) at is in cc
-      go (boxed_front b inside' e (list_boxed vs at e' st)) =
-          let w : Some inside ≡ Some inside' = rw (e, at) at is in
-          let same : inside ≡ inside' = cc in
-          (vs, e', subst (λ (l : List Token). HasValues 93 l vs) (sym same) st)
-      go (boxed_front b inside' e (pairs_boxed at e')) = let w = rw (e, at) at is in cc
+  pub list_stands : (inside : List Token) → Some inside ≡ symbol_token_at 91 toks → Front toks v rest → (vs : List Literal) × (v ≡ Row Square (all_listed_values vs)) × HasValues 93 inside vs
+  list_stands inside is (text_front bytes e e') = let w = rw e at is in cc
+  list_stands inside is (integer_front n e e') = let w = rw e at is in cc
+  list_stands inside is (truth_front truth e e') = let w = rw e at is in cc
+  list_stands inside is (nothing_front e e') = let w = rw e at is in cc
+  list_stands inside is (boxed_front b inside' e (tuple_boxed vs at e' st)) = let w = rw (e, at) at is in cc
+  list_stands inside is (boxed_front b inside' e (list_boxed vs at e' st)) =
+      let w : Some inside ≡ Some inside' = rw (e, at) at is in
+      let same : inside ≡ inside' = cc in
+      (vs, e', subst (λ (l : List Token). HasValues 93 l vs) (sym same) st)
+  list_stands inside is (boxed_front b inside' e (pairs_boxed at e')) = let w = rw (e, at) at is in cc
 
-  pub tuple_stands : (inside : List Token) → Some inside ≡ symbol_token_at 40 toks → (vs : List Literal) × (v ≡ Row Round (all_listed_values vs)) × HasValues 41 inside vs
-  tuple_stands inside is = go (front_of toks v s)
-    where
-      go : Front toks v s.rest → (vs : List Literal) × (v ≡ Row Round (all_listed_values vs)) × HasValues 41 inside vs
-      go (text_front bytes e e') = let w = rw e at is in cc
-      go (integer_front n e e') = let w = rw e at is in cc
-      go (truth_front truth e e') = let w = rw e at is in cc
-      go (nothing_front e e') = let w = rw e at is in cc
-      go (boxed_front b inside' e (tuple_boxed vs at e' st)) =
-          let w : Some inside ≡ Some inside' = rw (e, at) at is in
-          let same : inside ≡ inside' = cc in
-          (vs, e', subst (λ (l : List Token). HasValues 41 l vs) (sym same) st)
-      go (boxed_front b inside' e (list_boxed vs at e' st)) = let w = rw (e, at) at is in cc
-      go (boxed_front b inside' e (pairs_boxed at e')) = let w = rw (e, at) at is in cc
+  pub tuple_stands : (inside : List Token) → Some inside ≡ symbol_token_at 40 toks → Front toks v rest → (vs : List Literal) × (v ≡ Row Round (all_listed_values vs)) × HasValues 41 inside vs
+  tuple_stands inside is (text_front bytes e e') = let w = rw e at is in cc
+  tuple_stands inside is (integer_front n e e') = let w = rw e at is in cc
+  tuple_stands inside is (truth_front truth e e') = let w = rw e at is in cc
+  tuple_stands inside is (nothing_front e e') = let w = rw e at is in cc
+  tuple_stands inside is (boxed_front b inside' e (tuple_boxed vs at e' st)) =
+      let w : Some inside ≡ Some inside' = rw (e, at) at is in
+      let same : inside ≡ inside' = cc in
+      (vs, e', subst (λ (l : List Token). HasValues 41 l vs) (sym same) st)
+  tuple_stands inside is (boxed_front b inside' e (list_boxed vs at e' st)) = let w = rw (e, at) at is in cc
+  tuple_stands inside is (boxed_front b inside' e (pairs_boxed at e')) = let w = rw (e, at) at is in cc
 
-  pub no_type : None ≡ string_at toks → None ≡ symbol_token_at 91 toks → ((within : List Literal → Result Structure Refusal) → type_in within v ≡ Err DescriptorLeftOut) × (descr_in v ≡ Err BadDescriptor)
-  no_type no_text no_list = go (front_of toks v s)
-    where
-      go : Front toks v s.rest → ((within : List Literal → Result Structure Refusal) → type_in within v ≡ Err DescriptorLeftOut) × (descr_in v ≡ Err BadDescriptor)
-      go (text_front bytes e e') = let w = rw e at no_text in cc
-      go (integer_front n e e') = (λ within. rw e' refl, rw e' refl)
-      go (truth_front truth e e') = (λ within. rw e' refl, rw e' refl)
-      go (nothing_front e e') = (λ within. rw e' refl, rw e' refl)
-      go (boxed_front b inside e (tuple_boxed vs at e' st)) = (λ within. rw e' refl, rw e' refl)
-      go (boxed_front b inside e (list_boxed vs at e' st)) = let w = rw (e, at) at no_list in cc
-      go (boxed_front b inside e (pairs_boxed at e')) = (λ within. rw e' refl, rw e' refl)
+  pub no_type : None ≡ string_at toks → None ≡ symbol_token_at 91 toks → Front toks v rest → ((within : List Literal → Result Structure Refusal) → type_in within v ≡ Err DescriptorLeftOut) × (descr_in v ≡ Err BadDescriptor)
+  no_type no_text no_list (text_front bytes e e') = let w = rw e at no_text in cc
+  no_type no_text no_list (integer_front n e e') = (λ within. rw e' refl, rw e' refl)
+  no_type no_text no_list (truth_front truth e e') = (λ within. rw e' refl, rw e' refl)
+  no_type no_text no_list (nothing_front e e') = (λ within. rw e' refl, rw e' refl)
+  no_type no_text no_list (boxed_front b inside e (tuple_boxed vs at e' st)) = (λ within. rw e' refl, rw e' refl)
+  no_type no_text no_list (boxed_front b inside e (list_boxed vs at e' st)) = let w = rw (e, at) at no_list in cc
+  no_type no_text no_list (boxed_front b inside e (pairs_boxed at e')) = (λ within. rw e' refl, rw e' refl)
 
-  pub no_tuple : None ≡ symbol_token_at 40 toks → (entry_parts v ≡ None) × (lengths_of v ≡ Err BadHeader)
-  no_tuple none = go (front_of toks v s)
-    where
-      go : Front toks v s.rest → (entry_parts v ≡ None) × (lengths_of v ≡ Err BadHeader)
-      go (text_front bytes e e') = (rw e' refl, rw e' refl)
-      go (integer_front n e e') = (rw e' refl, rw e' refl)
-      go (truth_front truth e e') = (rw e' refl, rw e' refl)
-      go (nothing_front e e') = (rw e' refl, rw e' refl)
-      go (boxed_front b inside e (tuple_boxed vs at e' st)) = let w = rw (e, at) at none in cc
-      go (boxed_front b inside e (list_boxed vs at e' st)) = (rw e' refl, rw e' refl)
-      go (boxed_front b inside e (pairs_boxed at e')) = (rw e' refl, rw e' refl)
+  pub no_tuple : None ≡ symbol_token_at 40 toks → Front toks v rest → (entry_parts v ≡ None) × (lengths_of v ≡ Err BadHeader)
+  no_tuple none (text_front bytes e e') = (rw e' refl, rw e' refl)
+  no_tuple none (integer_front n e e') = (rw e' refl, rw e' refl)
+  no_tuple none (truth_front truth e e') = (rw e' refl, rw e' refl)
+  no_tuple none (nothing_front e e') = (rw e' refl, rw e' refl)
+  no_tuple none (boxed_front b inside e (tuple_boxed vs at e' st)) = let w = rw (e, at) at none in cc
+  no_tuple none (boxed_front b inside e (list_boxed vs at e' st)) = (rw e' refl, rw e' refl)
+  no_tuple none (boxed_front b inside e (pairs_boxed at e')) = (rw e' refl, rw e' refl)
 
   -- No value begins with a closing round bracket.
-  pub no_end : None ≡ symbol_token_at 41 toks
-  no_end = go (front_of toks v s)
-    where
-      go : Front toks v s.rest → None ≡ symbol_token_at 41 toks
-      go (text_front bytes e e') = rw e refl
-      go (integer_front n e e') = rw e refl
-      go (truth_front truth e e') = rw e refl
-      go (nothing_front e e') = rw e refl
-      go (boxed_front b inside e (tuple_boxed vs at e' st)) = rw (e, at) refl
-      go (boxed_front b inside e (list_boxed vs at e' st)) = rw (e, at) refl
-      go (boxed_front b inside e (pairs_boxed at e')) = rw (e, at) refl
+  pub no_end : Front toks v rest → None ≡ symbol_token_at 41 toks
+  no_end (text_front bytes e e') = rw e refl
+  no_end (integer_front n e e') = rw e refl
+  no_end (truth_front truth e e') = rw e refl
+  no_end (nothing_front e e') = rw e refl
+  no_end (boxed_front b inside e (tuple_boxed vs at e' st)) = rw (e, at) refl
+  no_end (boxed_front b inside e (list_boxed vs at e' st)) = rw (e, at) refl
+  no_end (boxed_front b inside e (pairs_boxed at e')) = rw (e, at) refl
 
-  pub no_name : None ≡ string_at toks → (others : List Literal) → name_and_type (v ∷ others) ≡ None
-  no_name none others = go (front_of toks v s)
-    where
-      go : Front toks v s.rest → name_and_type (v ∷ others) ≡ None
-      go (text_front bytes e e') = let w = rw e at none in cc
-      go (integer_front n e e') = rw e' refl
-      go (truth_front truth e e') = rw e' refl
-      go (nothing_front e e') = rw e' refl
-      go (boxed_front b inside e (tuple_boxed vs at e' st)) = rw e' refl
-      go (boxed_front b inside e (list_boxed vs at e' st)) = rw e' refl
-      go (boxed_front b inside e (pairs_boxed at e')) = rw e' refl
+  pub no_name : None ≡ string_at toks → (others : List Literal) → Front toks v rest → name_and_type (v ∷ others) ≡ None
+  no_name none others (text_front bytes e e') = let w = rw e at none in cc
+  no_name none others (integer_front n e e') = rw e' refl
+  no_name none others (truth_front truth e e') = rw e' refl
+  no_name none others (nothing_front e e') = rw e' refl
+  no_name none others (boxed_front b inside e (tuple_boxed vs at e' st)) = rw e' refl
+  no_name none others (boxed_front b inside e (list_boxed vs at e' st)) = rw e' refl
+  no_name none others (boxed_front b inside e (pairs_boxed at e')) = rw e' refl
 
-  pub no_integer : None ≡ integer_at toks → (others : List Literal) → integers_of (v ∷ others) ≡ Err BadHeader
-  no_integer none others = go (front_of toks v s)
-    where
-      go : Front toks v s.rest → integers_of (v ∷ others) ≡ Err BadHeader
-      go (text_front bytes e e') = rw e' refl
-      go (integer_front n e e') = let w = rw e at none in cc
-      go (truth_front truth e e') = rw e' refl
-      go (nothing_front e e') = rw e' refl
-      go (boxed_front b inside e (tuple_boxed vs at e' st)) = rw e' refl
-      go (boxed_front b inside e (list_boxed vs at e' st)) = rw e' refl
-      go (boxed_front b inside e (pairs_boxed at e')) = rw e' refl
+  pub no_integer : None ≡ integer_at toks → (others : List Literal) → Front toks v rest → integers_of (v ∷ others) ≡ Err BadHeader
+  no_integer none others (text_front bytes e e') = rw e' refl
+  no_integer none others (integer_front n e e') = let w = rw e at none in cc
+  no_integer none others (truth_front truth e e') = rw e' refl
+  no_integer none others (nothing_front e e') = rw e' refl
+  no_integer none others (boxed_front b inside e (tuple_boxed vs at e' st)) = rw e' refl
+  no_integer none others (boxed_front b inside e (list_boxed vs at e' st)) = rw e' refl
+  no_integer none others (boxed_front b inside e (pairs_boxed at e')) = rw e' refl
 
-  pub integer_stands : (found : ℕ × List Token) → Some found ≡ integer_at toks → (v ≡ Plain (Integer found.0)) × (s.rest ≡ found.1) × (None ≡ symbol_token_at 41 toks)
-  integer_stands found is = go (front_of toks v s)
-    where
-      go : Front toks v s.rest → (v ≡ Plain (Integer found.0)) × (s.rest ≡ found.1) × (None ≡ symbol_token_at 41 toks)
-      go (text_front bytes e e') = let w = rw e at is in cc
-      go (integer_front n e e') =
-          let w : Some found ≡ Some (n, s.rest) = rw e at is in
-          let same : found ≡ (n, s.rest) = cc in
-          (e' ∙ ap (λ (f : ℕ × List Token). Plain (Integer f.0)) (sym same), ap (λ (f : ℕ × List Token). f.1) (sym same), rw e refl)
-      go (truth_front truth e e') = let w = rw e at is in cc
-      go (nothing_front e e') = let w = rw e at is in cc
-      go (boxed_front b inside e box) = let w = rw e at is in cc
+  pub integer_stands : (found : ℕ × List Token) → Some found ≡ integer_at toks → Front toks v rest → (v ≡ Plain (Integer found.0)) × (rest ≡ found.1) × (None ≡ symbol_token_at 41 toks)
+  integer_stands found is (text_front bytes e e') = let w = rw e at is in cc
+  integer_stands found is (integer_front n e e') =
+      let w : Some found ≡ Some (n, rest) = rw e at is in
+      let same : found ≡ (n, rest) = cc in
+      (e' ∙ ap (λ (f : ℕ × List Token). Plain (Integer f.0)) (sym same), ap (λ (f : ℕ × List Token). f.1) (sym same), rw e refl)
+  integer_stands found is (truth_front truth e e') = let w = rw e at is in cc
+  integer_stands found is (nothing_front e e') = let w = rw e at is in cc
+  integer_stands found is (boxed_front b inside e box) = let w = rw e at is in cc
 
 -- ---- entries
 
@@ -210,7 +174,7 @@ module _ (inside : List Token) (vs : List Literal) (s : HasValues 41 inside vs) 
       go (Some end) e = ap name_and_type (stand_closed value_in 41 inside vs s end (sym e))
       go None e =
           let next = stand_open value_in 41 inside vs no_44 s (sym e) in
-          ap name_and_type next.is ∙ no_name inside next.first (record { rest = next.after; is = next.reads }) none next.others
+          ap name_and_type next.is ∙ no_name none next.others (front_of inside next.first (record { rest = next.after; is = next.reads }))
 
   -- a name that comes first, and the values after it
   pub named : (found : List ℕ × List Token) → Some found ≡ string_at inside → (others : List Literal) × (vs ≡ Plain (Text found.0) ∷ others) × HasValues 41 (behind_comma found.1) others × (None ≡ symbol_token_at 44 found.1 → others ≡ [])
@@ -239,7 +203,7 @@ module _ (kind : List Token) (others : List Literal) (s : HasValues 41 kind othe
       go (Err e) e' = let w = rw e' at reads in cc
       go (Ok x) e' =
           let stands : Stands kind x.0 = record { rest = x.1; is = e' } in
-          let next = next_stands value_in 41 no_44 kind others s (no_end kind x.0 stands) rest reads in
+          let next = next_stands value_in 41 no_44 kind others s (no_end (front_of kind x.0 stands)) rest reads in
           (next.0, next.1, next.4, record { rest = next.2; is = next.3 }, next.5)
 
 -- If values remain and their end does not come next, there is one more.
@@ -252,12 +216,12 @@ module _ (toks : List Token) (v : Literal) (s : Stands toks v) (inside : List To
   parts_of vs is = ap entry_parts is ∙ ap name_and_type (literals_of_listed vs)
 
   pub parts_nameless : None ≡ string_at inside → entry_parts v ≡ None
-  parts_nameless none = let row = tuple_stands toks v s inside opens in parts_of row.0 row.1 ∙ nameless inside row.0 row.2 none
+  parts_nameless none = let row = tuple_stands inside opens (front_of toks v s) in parts_of row.0 row.1 ∙ nameless inside row.0 row.2 none
 
   module _ (found : List ℕ × List Token) (name : Some found ≡ string_at inside) where
     parts_from : (others : List Literal) × HasValues 41 (behind_comma found.1) others × (None ≡ symbol_token_at 44 found.1 → others ≡ []) × (entry_parts v ≡ name_and_type (Plain (Text found.0) ∷ others))
     parts_from =
-        let row = tuple_stands toks v s inside opens in
+        let row = tuple_stands inside opens (front_of toks v s) in
         let next = named inside row.0 row.2 found name in
         (next.0, next.2, next.3, parts_of row.0 row.1 ∙ ap name_and_type next.1)
 

@@ -21,10 +21,7 @@ pub struct SavedParts<'a> {
 fn is_fortran(layout: &Layout, width: usize) -> bool
     ensures { result ≡ is_fortran width layout.now.shape (offsets layout.now) }
 {
-    if layout.is_c(width) {
-        return false;
-    }
-    layout.is_f(width)
+    !layout.is_c(width) && layout.is_f(width)
 }
 
 /// The bytes of a file before the items of `width` bytes of a layout.

@@ -1,6 +1,7 @@
 -- The refusals of a header, in order.
 use Rattle.std.proofs.Common.{◌≡◌, ◌∙◌, ⊎_elim, inl, inr, ap, refl, sym, length, arith}
 use Rattle.npy_format.proofs.Words.{err_from_is_err_and, shape_of, descr_in, lengths_of, header_of, tokens}
+use Rattle.npy_format.proofs.PlaceLaws.{front_of}
 use Rattle.npy_format.proofs.StandLaws.{truth_is}
 use Rattle.npy_format.proofs.HeaderLaws.{no_lengths, shape_found, or_refused}
 use Rattle.npy_format.proofs.header.header_of.Goals as goal
@@ -13,7 +14,7 @@ returns-in_err-fortran c = λ pairs s.
     let el = c.in_ok-element.ensures pairs s in
     let or = c.in_ok-order.ensures pairs s in
     let p = err_from_is_err_and c.from_residual-in_err-fortran.result c.from_residual-in_err-fortran.ensures.1 in
-    rw (p.1, p.2) (inr (rw (three, el.1, or.1, sym (truth_is (tokens c.in_ok-order.order.now) or.0 or.2) ∙ sym c.in_err-fortran.ensures) refl))
+    rw (p.1, p.2) (inr (rw (three, el.1, or.1, sym (truth_is (front_of (tokens c.in_ok-order.order.now) or.0 or.2)) ∙ sym c.in_err-fortran.ensures) refl))
 
 pub returns-in_err-tuple : goal.returns-in_err-tuple
 unfolding header_of
@@ -22,7 +23,7 @@ returns-in_err-tuple c = λ pairs s.
     let three : length pairs ≡ 3 = omega (arith, n, c.if-branch-ne3.false) in
     let el = c.in_ok-element.ensures pairs s in
     let or = c.in_ok-order.ensures pairs s in
-    let truth = sym (truth_is (tokens c.in_ok-order.order.now) or.0 or.2) ∙ sym c.in_ok-fortran.ensures in
+    let truth = sym (truth_is (front_of (tokens c.in_ok-order.order.now) or.0 or.2)) ∙ sym c.in_ok-fortran.ensures in
     let p = err_from_is_err_and c.from_residual-in_err-tuple.result c.from_residual-in_err-tuple.ensures.1 in
     rw (p.1, p.2) (inr (rw (three, el.1, or.1, truth, c.in_err-tuple.ensures pairs s) refl))
 
@@ -33,7 +34,7 @@ returns-in_err-axes c = λ pairs s.
     let three : length pairs ≡ 3 = omega (arith, n, c.if-branch-ne3.false) in
     let el = c.in_ok-element.ensures pairs s in
     let or = c.in_ok-order.ensures pairs s in
-    let truth = sym (truth_is (tokens c.in_ok-order.order.now) or.0 or.2) ∙ sym c.in_ok-fortran.ensures in
+    let truth = sym (truth_is (front_of (tokens c.in_ok-order.order.now) or.0 or.2)) ∙ sym c.in_ok-fortran.ensures in
     let tu = c.in_ok-tuple.ensures pairs s in
     let p = err_from_is_err_and c.from_residual-in_err-axes.result c.from_residual-in_err-axes.ensures.1 in
     rw (p.1, p.2, three, el.1, or.1, truth, tu.1) (or_refused _ (lengths_of tu.0) _ (⊎_elim inl (λ e. inr (no_lengths tu.0 _ e)) (c.in_err-axes.ensures tu.0 tu.2)))
@@ -45,7 +46,7 @@ returns-in_err-descr c = λ pairs s.
     let three : length pairs ≡ 3 = omega (arith, n, c.if-branch-ne3.false) in
     let el = c.in_ok-element.ensures pairs s in
     let or = c.in_ok-order.ensures pairs s in
-    let truth = sym (truth_is (tokens c.in_ok-order.order.now) or.0 or.2) ∙ sym c.in_ok-fortran.ensures in
+    let truth = sym (truth_is (front_of (tokens c.in_ok-order.order.now) or.0 or.2)) ∙ sym c.in_ok-fortran.ensures in
     let tu = c.in_ok-tuple.ensures pairs s in
     let ls = shape_found tu.0 _ (c.in_ok-axes.ensures tu.0 tu.2) in
     let p = err_from_is_err_and c.from_residual-in_err-descr.result c.from_residual-in_err-descr.ensures.1 in
@@ -58,7 +59,7 @@ returns-in_err-shape c = λ pairs s.
     let three : length pairs ≡ 3 = omega (arith, n, c.if-branch-ne3.false) in
     let el = c.in_ok-element.ensures pairs s in
     let or = c.in_ok-order.ensures pairs s in
-    let truth = sym (truth_is (tokens c.in_ok-order.order.now) or.0 or.2) ∙ sym c.in_ok-fortran.ensures in
+    let truth = sym (truth_is (front_of (tokens c.in_ok-order.order.now) or.0 or.2)) ∙ sym c.in_ok-fortran.ensures in
     let tu = c.in_ok-tuple.ensures pairs s in
     let ls = shape_found tu.0 _ (c.in_ok-axes.ensures tu.0 tu.2) in
     let de = c.in_ok-descr.ensures el.0 el.2 in
@@ -72,7 +73,7 @@ returns c = λ pairs s.
     let three : length pairs ≡ 3 = omega (arith, n, c.if-branch-ne3.false) in
     let el = c.in_ok-element.ensures pairs s in
     let or = c.in_ok-order.ensures pairs s in
-    let truth = sym (truth_is (tokens c.in_ok-order.order.now) or.0 or.2) ∙ sym c.in_ok-fortran.ensures in
+    let truth = sym (truth_is (front_of (tokens c.in_ok-order.order.now) or.0 or.2)) ∙ sym c.in_ok-fortran.ensures in
     let tu = c.in_ok-tuple.ensures pairs s in
     let ls = shape_found tu.0 _ (c.in_ok-axes.ensures tu.0 tu.2) in
     let de = c.in_ok-descr.ensures el.0 el.2 in

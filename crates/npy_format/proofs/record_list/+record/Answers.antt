@@ -1,6 +1,7 @@
 use Rattle.std.proofs.Common.{◌≡◌, ◌∙◌, ⊎_elim, inl, inr, ap, refl, sym, true, false, Ok, arith, rules}
 use Rattle.npy_format.proofs.Words.{err_from_is_err_and, RecordDescr, is_legal_name, ◌>>=◌, is_empty, Partial, tokens, symbol_token_at, type_in, field_in, record_in, value_in}
 use Rattle.npy_format.proofs.GrammarLaws.{literal_leaves}
+use Rattle.npy_format.proofs.PlaceLaws.{front_of}
 use Rattle.npy_format.proofs.StandLaws.{symbol_open, symbol_closed, string_stands, list_stands, no_type, pad_is}
 use Rattle.npy_format.proofs.HeaderLaws.{entry_shorter, or_refused}
 use Rattle.npy_format.proofs.RecordListLaws.{fields_begin, fields_closed, fields_read, fields_next, fields_refused, gives_same, gives_answer, gives_value, list_type, parts_in, entry_means, entry_pad, entry_field, field_added}
@@ -13,7 +14,7 @@ pub add_entry-returns-then-is_empty-clause-gives : goal.add_entry-returns-then-i
 add_entry-returns-then-is_empty-clause-gives t c = λ v s.
     let parts = c.in-Some.ensures v s in
     let none : is_empty c.in-Some.name.now ≡ true = search rules in
-    gives_answer _ _ _ _ (entry_pad (record_in c.args.builder.now.levels) c.args.builder.now v c.in-Some.name.now parts.0 parts.1 none ∙ sym (pad_is (tokens c.in-Some.kind.now) parts.0 parts.2 c.args.builder.now)) c.add_pad.ensures.answers
+    gives_answer _ _ _ _ (entry_pad (record_in c.args.builder.now.levels) c.args.builder.now v c.in-Some.name.now parts.0 parts.1 none ∙ sym (pad_is c.args.builder.now (front_of (tokens c.in-Some.kind.now) parts.0 parts.2))) c.add_pad.ensures.answers
 
 pub add_entry-returns-clause-gives : goal.add_entry-returns-clause-gives
 add_entry-returns-clause-gives t c = λ v s.
@@ -51,20 +52,20 @@ add_field-returns-clause-gives t c = λ v s.
     gives_same _ _ _ _ (field_added (record_in c.args.builder.now.levels) c.args.builder.now c.args.name.now v c.in_ok-descr.descr legal means c.in_ok-check_name.ensures.answers) added
 
 pub field_type-returns-in-Some-clause-gives : goal.field_type-returns-in-Some-clause-gives
-field_type-returns-in-Some-clause-gives t c = λ v s. gives_value _ _ (ap (type_in (record_in c.args.levels c.args.leaves)) (string_stands (tokens c.args.kind.now) v s (c.in-Some.kind.now, tokens c.in-Some.field-0-1.now) c.in-Some.ensures) ∙ sym c.scalar.ensures.value)
+field_type-returns-in-Some-clause-gives t c = λ v s. gives_value _ _ (ap (type_in (record_in c.args.levels c.args.leaves)) (string_stands (c.in-Some.kind.now, tokens c.in-Some.field-0-1.now) c.in-Some.ensures (front_of (tokens c.args.kind.now) v s)) ∙ sym c.scalar.ensures.value)
 
 pub field_type-returns-in_default-symbol-clause-gives : goal.field_type-returns-in_default-symbol-clause-gives
-field_type-returns-in_default-symbol-clause-gives t c = λ v s. inr ((no_type (tokens c.args.kind.now) v s c.in_default.ensures c.in_default-symbol.ensures).0 (record_in c.args.levels c.args.leaves))
+field_type-returns-in_default-symbol-clause-gives t c = λ v s. inr ((no_type c.in_default.ensures c.in_default-symbol.ensures (front_of (tokens c.args.kind.now) v s)).0 (record_in c.args.levels c.args.leaves))
 
 pub field_type-returns-in_err-whole-clause-gives : goal.field_type-returns-in_err-whole-clause-gives
 field_type-returns-in_err-whole-clause-gives t c = λ v s.
-    let row = list_stands (tokens c.args.kind.now) v s (tokens c.in-Some-symbol.entries.now) c.in-Some-symbol.ensures in
+    let row = list_stands (tokens c.in-Some-symbol.entries.now) c.in-Some-symbol.ensures (front_of (tokens c.args.kind.now) v s) in
     let p = err_from_is_err_and c.from_residual.result c.from_residual.ensures.1 in
     rw (p.1, p.2) (⊎_elim inl (λ e. inr (list_type (record_in c.args.levels c.args.leaves) v row.0 row.1 ∙ ap (λ r. r >>= λ whole. Ok (RecordDescr whole)) e)) (c.in_err-whole.ensures.gives row.0 row.2))
 
 pub field_type-returns-clause-gives : goal.field_type-returns-clause-gives
 field_type-returns-clause-gives t c = λ v s.
-    let row = list_stands (tokens c.args.kind.now) v s (tokens c.in-Some-symbol.entries.now) c.in-Some-symbol.ensures in
+    let row = list_stands (tokens c.in-Some-symbol.entries.now) c.in-Some-symbol.ensures (front_of (tokens c.args.kind.now) v s) in
     list_type (record_in c.args.levels c.args.leaves) v row.0 row.1 ∙ ap (λ r. r >>= λ whole. Ok (RecordDescr whole)) (c.in_ok-whole.ensures.gives row.0 row.2)
 
 pub record-returns-then-levels-eq0-clause-gives : goal.record-returns-then-levels-eq0-clause-gives

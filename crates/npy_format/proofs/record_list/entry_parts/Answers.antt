@@ -1,9 +1,10 @@
 use Rattle.npy_format.specs.Tokens.{tokens}
+use Rattle.npy_format.proofs.PlaceLaws.{front_of}
 use Rattle.npy_format.proofs.StandLaws.{no_tuple, parts_nameless, parts_alone, parts_untyped, parts_many, parts_two}
 use Rattle.npy_format.proofs.record_list.entry_parts.Goals as goal
 
 pub returns-in_err-inside : goal.returns-in_err-inside
-returns-in_err-inside c = λ v s. rw c.from_residual.ensures (no_tuple (tokens c.args.entry.now) v s c.in_err-inside.ensures).0
+returns-in_err-inside c = λ v s. rw c.from_residual.ensures (no_tuple c.in_err-inside.ensures (front_of (tokens c.args.entry.now) v s)).0
 
 pub returns-in_err-name : goal.returns-in_err-name
 returns-in_err-name c = λ v s. rw c.from_residual-in_err-name.ensures (parts_nameless (tokens c.args.entry.now) v s (tokens c.in_ok-inside.inside.now) c.in_ok-inside.ensures c.in_err-name.ensures)
