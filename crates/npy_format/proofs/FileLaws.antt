@@ -1,6 +1,6 @@
 -- The parts of a file, one after another.
-use Rattle.std.proofs.Common.{◌≡◌, ◌⊎◌, ◌+◌, ℕ, true, List, [], ◌∷◌, ◌++◌, length, take, drop, Ok, refl, sym, ap, ◌∙◌, inl, inr, arith, length-append, append_assoc, ◌≤◌, replicate, codes}
-use Rattle.npy_format.proofs.Words.{take-replicate, length-replicate, little_bytes, spaces_after, padded_text, with_length, magic, begins_well, split_front, length_bytes, text_behind, split_header}
+use Rattle.std.proofs.Common.{◌≡◌, ◌⊎◌, ◌+◌, ℕ, true, List, [], ◌∷◌, ◌++◌, length, take, drop, Ok, refl, sym, ap, ◌∙◌, inl, inr, arith, length-append, append_assoc, replicate, codes}
+use Rattle.npy_format.proofs.Words.{length-replicate, little_bytes, spaces_after, padded_text, with_length, magic, begins_well, split_front, length_bytes, text_behind, split_header}
 
 pub header_split : (file version rest field behind : List ℕ) (width : ℕ) → begins_well file ≡ true → split_front 2 (drop 6 file) ≡ Ok (version, rest) → length_bytes version ≡ Ok width → split_front width rest ≡ Ok (field, behind) → split_header file ≡ text_behind field behind
 unfolding split_header
@@ -10,9 +10,6 @@ header_split file version rest field behind width well one two three = rw (well,
 pub low_bytes : (width n : ℕ) (rest : List ℕ) → (width ≡ 2) ⊎ (width ≡ 4) → take width (little_bytes 8 n ++ rest) ≡ little_bytes width n
 low_bytes width n rest (inl two) = rw two refl
 low_bytes width n rest (inr four) = rw four refl
-
-pub spaces : (n b : ℕ) → n ≤ 64 → take n (replicate 64 b) ≡ replicate n b
-spaces n b few = take-replicate n 64 b few
 
 pub length-padded : (before : ℕ) (text : List ℕ) → length (padded_text before text) ≡ length text + spaces_after (before + length text) + 1
 length-padded before text =

@@ -35,7 +35,7 @@ pub use Rattle.elem_descr.specs.declared.descr.Leaf.{Leaf}
 pub use Rattle.elem_descr.specs.declared.operators.MemoryOrder.{MemoryOrder}
 pub use Rattle.elem_descr.specs.declared.operators.MemoryOrder.TheVariants.{C, Fortran}
 pub use Rattle.elem_descr.specs.declared.refusal.Refusal.{Refusal}
-pub use Rattle.elem_descr.specs.declared.refusal.Refusal.TheVariants.{BadDescriptor, BadHeader, BadMagic, BadVersion, DescriptorLeftOut, OutOfMemory, TooLarge, TooManyAxes, Truncated}
+pub use Rattle.elem_descr.specs.declared.refusal.Refusal.TheVariants.{BadDescriptor, BadHeader, BadMagic, BadVersion, DescriptorLeftOut, OutOfMemory, TooLarge, Truncated}
 pub use Rattle.elem_descr.specs.declared.scalar.Order.{Order}
 pub use Rattle.elem_descr.specs.declared.scalar.Order.TheVariants.{Big, Little}
 pub use Rattle.elem_descr.specs.declared.scalar.Scalar.{Scalar}

@@ -2,6 +2,7 @@
 ghost use Rattle.std.specs.Prelude.{◌≡◌, ◌≤◌, ◌<◌, ◌+◌, ◌^◌, ◌⊎◌, ◌∷◌, ◌++◌, [], length, replicate, IfOk, OnOk};
 ghost use Rattle.npy_format.specs.Clauses.{little_bytes, magic, spaces_after, padded_text, with_length, written_header};
 
+use crate::items::pad;
 use byteorder::{ByteOrder, LittleEndian};
 use std::alloc::{AllocError, Global};
 
@@ -16,14 +17,6 @@ fn spaces_after(bytes: usize) -> usize
     ensures few { result ≤ 64 }
 {
     (64 - (bytes + 1) % 64) % 64
-}
-
-#[tactic(auto, using(crate::proofs::FileLaws::spaces))]
-fn push_spaces(out: &mut Vec<u8>, n: usize) -> Result<(), AllocError>
-    requires { n ≤ 64 }
-    ensures { OnOk result (out.new.items ≡ out.old.items ++ replicate n 32) }
-{
-    out.extend_from_slice([b' '; 64].as_slice().split_at(n).0)
 }
 
 /// The two or four lowest bytes of a length, lowest byte first.
@@ -52,7 +45,8 @@ fn push_header(out: &mut Vec<u8>, version: u8, width: usize, text: &[u8]) -> Res
     out.push(0)?;
     push_length(out, width, text.len() + spaces + 1)?;
     out.extend_from_slice(text)?;
-    push_spaces(out, spaces)?;
+    let len = out.len() + spaces;
+    pad(out, len, b' ')?;
     out.push(b'\n')?;
     Ok(())
 }

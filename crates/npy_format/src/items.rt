@@ -93,13 +93,13 @@ fn limit(scalar: &Scalar) -> u8
     }
 }
 
-/// Appends limits up to a length.
-fn pad(limits: &mut Vec<u8>, len: usize, limit: u8) -> Result<(), AllocError>
-    requires { length limits.old.items ≤ len }
+/// Appends a byte up to a length.
+pub(crate) fn pad(bytes: &mut Vec<u8>, len: usize, byte: u8) -> Result<(), AllocError>
+    requires { length bytes.old.items ≤ len }
     ensures { OnOk result
-        (limits.new.items ≡ limits.old.items ++ replicate (len - length limits.old.items) limit) }
+        (bytes.new.items ≡ bytes.old.items ++ replicate (len - length bytes.old.items) byte) }
 {
-    limits.resize(len, limit)?;
+    bytes.resize(len, byte)?;
     Ok(())
 }
 
