@@ -1,7 +1,6 @@
 -- Pairs of runs: those of layouts that are single runs, and those that are copied pair by pair.
-use Rattle.std.proofs.Common.{◌≡◌, ℕ, ◌+◌, ◌≤◌, List, [], ◌∷◌, All, length, sym, ap, subst, ◌∙◌}
-use Rattle.overlap_copy.proofs.Words.{flat_map, Each, All-from_recursion, recursion_from_All, EachWithin, Run, RunPair, run_offsets, length-run_offsets, Layout, count, offsets, length-offsets, BeginsWithin, run-within, run-ends, assigned-append, assigned, firsts, seconds}
-use Rattle.overlap_copy.proofs.MovingLaws.{Each-append}
+use Rattle.std.proofs.Common.{◌≡◌, ℕ, ◌+◌, ◌≤◌, List, ◌∷◌, All, length, sym, ap, subst, ◌∙◌}
+use Rattle.overlap_copy.proofs.Words.{EachWithin, Run, RunPair, run_offsets, length-run_offsets, Layout, count, offsets, length-offsets, BeginsWithin, run-within, assigned-append, assigned, firsts, seconds}
 
 -- ---- layouts that are runs
 

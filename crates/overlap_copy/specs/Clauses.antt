@@ -2,7 +2,7 @@
 pub use Rattle.overlap_copy.specs.Apart.{AreApart, IsGreatestDivisor, LieBetween, steps}
 pub use Rattle.overlap_copy.specs.Overlaps.{do_ranges_meet, have_common_byte}
 pub use Rattle.overlap_copy.specs.Runs.{IsRun}
-pub use Rattle.overlap_copy.specs.Words.{Axis, BeginsWithin, Fits, IsNested, IsPermutation, IsStacked, assigned, copied_within, count, item_pairs, items_at, joined_at, list_any, max_axes, max_bytes, max_items, multiples, reach, run_offsets, with_items}
+pub use Rattle.overlap_copy.specs.Words.{Axis, BeginsWithin, Fits, IsNested, IsPermutation, IsStacked, assigned, copied_within, count, item_pairs, items_at, joined_at, list_any, max_axes, max_bytes, max_items, multiples, run_offsets, with_items}
 unfoldable pub use Rattle.overlap_copy.specs.Words.{offsets}
 pub use Rattle.overlap_copy.specs.declared.axis_sums.Answer.TheVariants.{No, Yes}
 pub use Rattle.overlap_copy.specs.inside.Joins.{AreJoined}
