@@ -1,4 +1,4 @@
-use Rattle.std.proofs.Common.{◌≡◌, ◌+◌, ◌*◌, ◌≤◌, [], ◌∷◌, ◌++◌, map, length, All, sym, ap, subst, ◌∙◌, append-nil, arith}
+use Rattle.std.proofs.Common.{◌≡◌, ◌+◌, ◌*◌, ◌≤◌, [], ◌∷◌, ◌++◌, map, length, All, sym, ap, subst, ◌∙◌, arith}
 use Rattle.arrays.proofs.Words.{All-rest, All-head, Grid, grid_items, EachWithin, GridWithin, Run, LieWithin, offsets, max_bytes, run_along, run_offsets, all_offsets, lie-within, runs-within, joined_at, rows_of}
 use Rattle.arrays.proofs.GridLaws.{grid-within, grid-bytes, rows-first, rows-rest, rows-count, rows-pushed}
 use Rattle.arrays.proofs.packed.push_grids.Goals as goal
@@ -58,13 +58,3 @@ loop-run-preserved g c =
       begin = All-rest (λ (run : Run). LieWithin (run.count ∷ []) (run.step ∷ []) run.offset max_bytes 1) _ _ _ steps inv.begin;
       some = All-rest (λ (run : Run). 1 ≤ run.count) _ _ _ steps inv.some;
     }
-
-pub returns-clause-bytes : goal.returns-clause-bytes
-returns-clause-bytes g c =
-    let items = c.loop-run.items.0 in
-    sym (append-nil items) ∙ ap (λ rs. items ++ joined_at (all_offsets (rows_of c.rows-starts.result.along rs)) g.row.N c.args.block.now) (sym c.in-None.ensures.steps.0) ∙ c.loop-run.invariant.bytes
-
-pub returns-clause-left : goal.returns-clause-left
-returns-clause-left g c =
-    let none = ap (λ rs. length (all_offsets (rows_of c.rows-starts.result.along rs)) * g.row.N) c.in-None.ensures.steps.0 in
-    omega (arith, none, c.loop-run.invariant.left)
