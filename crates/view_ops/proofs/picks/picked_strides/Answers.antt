@@ -1,22 +1,10 @@
-use Rattle.std.proofs.Common.{arith}
 use Rattle.view_ops.proofs.Words.{At}
-use Rattle.view_ops.proofs.PickViews.{step_at, stepped_on, stepped_all}
+use Rattle.view_ops.proofs.PickViews.{step_at, stepped_on}
 use Rattle.view_ops.proofs.picks.picked_strides.Goals as goal
-
-pub push_stride-requires-clause-axis : goal.push_stride-requires-clause-axis
-push_stride-requires-clause-axis c = (step_at c.args.strides.now c.loop-pick.made c.args.picks.now c.loop-pick.pick-index c.loop-pick.axis (At 0) c.loop-pick-test.true c.loop-pick.invariant).axis_in
 
 pub push_stride-requires-clause-small : goal.push_stride-requires-clause-small
 push_stride-requires-clause-small c = (step_at c.args.strides.now c.loop-pick.made c.args.picks.now c.loop-pick.pick-index c.loop-pick.axis (At 0) c.loop-pick-test.true c.loop-pick.invariant).small
 
-pub overflow_add-axis : goal.overflow_add-axis
-overflow_add-axis c =
-    let step = step_at c.args.strides.now c.loop-pick.made c.args.picks.now c.loop-pick.pick-index c.loop-pick.axis (At 0) c.loop-pick-test.true c.loop-pick.invariant in
-    record { fits = omega (arith, step.within, c.axes_of_pick-axis.ensures, c.requires.few) }
-
 pub loop-pick-preserved : goal.loop-pick-preserved
 loop-pick-preserved c =
     rw c.axes_of_pick-axis.ensures (stepped_on c.args.strides.now c.loop-pick.made c.push_stride.new.made c.args.picks.now c.loop-pick.pick-index c.loop-pick.axis (At 0) c.loop-pick-test.true c.in_ok-push_stride.ensures c.loop-pick.invariant)
-
-pub returns : goal.returns
-returns c = stepped_all c.args.strides.now c.loop-pick.made c.args.picks.now c.loop-pick.pick-index c.loop-pick.axis (omega arith) c.loop-pick.invariant

@@ -13,9 +13,6 @@ pub returns-then-items-eq0-clause-view : goal.returns-then-items-eq0-clause-view
 returns-then-items-eq0-clause-view c =
     gives_picks c.args.layout.now c.in_ok-c_order.field-0 c.args.picks.now c.in_ok-shape.shape c.in_ok-shape.ensures (picked-is c.args.layout.now c.in_ok-c_order.field-0 c.args.picks.now (picked_empty c.args.layout.now c.in_ok-c_order.field-0 c.in_ok-shape.shape c.args.picks.now c.requires c.in_ok-c_order.ensures.shape (made-shape c.args.picks.now c.in_ok-shape.shape c.in_ok-shape.ensures) (sym c.items.ensures.value ∙ c.if-items-eq0.true)))
 
-pub returns-then-items-eq0-clause-nested : goal.returns-then-items-eq0-clause-nested
-returns-then-items-eq0-clause-nested c = picked-nested c.args.layout.now c.in_ok-c_order.field-0 c.args.picks.now (picked_empty c.args.layout.now c.in_ok-c_order.field-0 c.in_ok-shape.shape c.args.picks.now c.requires c.in_ok-c_order.ensures.shape (made-shape c.args.picks.now c.in_ok-shape.shape c.in_ok-shape.ensures) (sym c.items.ensures.value ∙ c.if-items-eq0.true))
-
 pub at-offset-requires : goal.at-offset-requires
 at-offset-requires c =
     let some : 0 < count (shape_of_picks c.args.picks.now) = omega (arith, ap count (made-shape c.args.picks.now c.in_ok-shape.shape c.in_ok-shape.ensures), c.items.ensures.value, c.if-items-eq0.false) in

@@ -1,6 +1,6 @@
 use Rattle.std.proofs.Common.{◌≡◌, to_z, of_z}
 use Rattle.view_ops.proofs.Words.{w128, to_z-of_z, lowest, from_front, clamped}
-use Rattle.view_ops.proofs.SliceLaws.{clamp_low, clamp_high}
+use Rattle.view_ops.proofs.SliceLaws.{clamp_low}
 use Rattle.view_ops.proofs.slice.clamped.Goals as goal
 
 value : (c : goal.After-min) → to_z w128 (of_z w128 c.min.result) ≡ clamped c.args.n c.args.step c.args.at
@@ -21,6 +21,3 @@ returns-clause-value c = value c
 
 pub returns-clause-low : goal.returns-clause-low
 returns-clause-low c = rw (value c) (clamp_low (from_front c.args.n c.args.at) (lowest c.args.step) c.args.n)
-
-pub returns-clause-high : goal.returns-clause-high
-returns-clause-high c = rw (value c) (clamp_high (from_front c.args.n c.args.at) (lowest c.args.step) c.args.n)
