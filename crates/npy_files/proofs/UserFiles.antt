@@ -1,6 +1,6 @@
 -- The files that a user sees in a folder.
-use Rattle.std.proofs.Common.{◌≡◌, ◌≢◌, ℕ, Bool, true, false, List, Option, Some, None, Ok, Err, Result, IsTrue, cond, refl, sym, ap, ◌∙◌, subst}
-use Rattle.npy_files.proofs.Words.{texts_ties, nat_list_cmp_total, empty, get, insert, get-retain_keys, get-insert, same_map, true≢false, bytes_eq-Decides, Files, SameBut, StoreFault, Device, TooLong, Memory, is_user_name, StoreState, IsRead, IsKept, IsWritten, user_files, folder_shelf, IsPut}
+use Rattle.std.proofs.Common.{◌≡◌, ◌≢◌, ◌≤◌, ⊎_elim, inl, inr, arith, length, ℕ, Bool, true, false, List, Option, Some, None, Ok, Err, Result, IsTrue, cond, refl, sym, ap, ◌∙◌, subst}
+use Rattle.npy_files.proofs.Words.{texts_ties, nat_list_cmp_total, empty, get, insert, get-retain_keys, get-insert, same_map, true≢false, bytes_eq-Decides, Files, SameBut, StoreFault, Device, TooLong, Memory, is_user_name, StoreState, IsRead, IsKept, IsWritten, user_files, folder_shelf, IsPut, HasCause, FaultHasCause, last_count}
 use Rattle.npy_files.proofs.StoreLaws.{exact, by_name}
 
 tied : (a b : List ℕ) → by_name a b ≡ true → a ≡ b
@@ -30,7 +30,7 @@ kept old new name same =
       | false ↦ λ no. no_user_file new name no ∙ sym (no_user_file old name no)
     ] refl
 
-pub replaced : (name bytes : List ℕ) (old new : Files) → IsTrue (is_user_name name) → IsPut name bytes (Ok tt) old new → user_files new ≡ insert (user_files old) name bytes
+replaced : (name bytes : List ℕ) (old new : Files) → IsTrue (is_user_name name) → IsPut name bytes (Ok tt) old new → user_files new ≡ insert (user_files old) name bytes
 replaced name bytes old new user put =
     same_map nat_list_cmp_total exact _ _ (λ other.
     at other ∙ sym (get-insert nat_list_cmp_total (user_files old) name bytes other))
@@ -46,7 +46,7 @@ replaced name bytes old new user put =
 abbrev pub plain_shelf : Files → ℕ → ℕ → Bool → StoreState
 plain_shelf files faults limit honest = record { files = user_files files; failures = faults; limit = limit; honest = honest }
 
-pub failed : (name bytes : List ℕ) (old new : Files) (faults limit : ℕ) (honest : Bool) (fault : StoreFault) → IsTrue (is_user_name name)
+failed : (name bytes : List ℕ) (old new : Files) (faults limit : ℕ) (honest : Bool) (fault : StoreFault) → IsTrue (is_user_name name)
     → (fault ≡ TooLong → ⊥) → IsPut name bytes (Err fault) old new → IsWritten (plain_shelf old faults limit honest) name bytes (Err fault) (user_files new)
 failed name bytes old new faults limit honest Device user short put = λ other far. kept old new other (λ seen. put.others other seen far)
 failed name bytes old new faults limit honest TooLong user short put = absurd (short refl)
@@ -55,6 +55,11 @@ failed name bytes old new faults limit honest Memory user short put = same_map n
       | true ↦ λ is. let same = tied other name is in ap (get new) same ∙ put.memory refl ∙ ap (get old) (sym same)
       | false ↦ λ no. put.others other seen (λ same. true≢false (sym (ties other name same) ∙ no))
     ] refl))
+
+pub user_writes : (name bytes : List ℕ) (old new : Files) (faults limit : ℕ) (honest : Bool) (result : Result (Unit {0}) StoreFault) → IsTrue (is_user_name name)
+    → (result ≡ Err TooLong → ⊥) → length bytes ≤ limit → IsPut name bytes result old new → IsWritten (plain_shelf old faults limit honest) name bytes result (user_files new)
+user_writes name bytes old new faults limit honest (Ok done) user short within put = (replaced name bytes old new user put, within)
+user_writes name bytes old new faults limit honest (Err fault) user short within put = failed name bytes old new faults limit honest fault user (λ is. short (ap Err is)) put
 
 -- a write to the files of an honest disk is a write to the store
 pub told_written : (honest : Bool) (old new : Files) (faults limit : ℕ) (name bytes : List ℕ) (result : Result (Unit {0}) StoreFault) → honest ≡ true
@@ -102,3 +107,10 @@ pub told_kept : (honest : Bool) (old new : Files) (faults limit : ℕ) (name byt
     → (IsTrue honest → IsWritten (plain_shelf old faults limit honest) name bytes result (user_files new)) → IsKept name result (cond honest (user_files old) empty) (cond honest (user_files new) empty)
 told_kept true old new faults limit name bytes result written = written-kept (plain_shelf old faults limit true) name bytes result (user_files new) (written refl)
 told_kept false old new faults limit name bytes result written = nothing-kept name result
+
+-- a fault of the device that was counted
+pub counted : {X : Type 0} (old new : StoreState) (answer : Result X StoreFault) → old.failures ≤ last_count → HasCause Device old.failures new.failures answer → FaultHasCause old new answer
+counted old new (Ok x) low cause = tt
+counted old new (Err Device) low cause = ⊎_elim inl (λ most. inr (omega (arith, low, most))) (cause.told refl)
+counted old new (Err TooLong) low cause = tt
+counted old new (Err Memory) low cause = tt

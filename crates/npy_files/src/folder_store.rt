@@ -51,18 +51,6 @@ fn write_file<D: Disk>(
     Ok(())
 }
 
-/// The count of faults after a fault. A fault of the device raises it.
-fn counted(faults: u64, fault: StoreFault) -> u64
-    ensures kept { faults ≤ result }
-    ensures raised { fault ≡ Device → calls.HasRisen faults result }
-{
-    if fault == StoreFault::Device {
-        faults.saturating_add(1)
-    } else {
-        faults
-    }
-}
-
 impl<D: Disk, C: Cutter> FolderStore<D, C> {
     /// A store on this disk, whose files have at most `limit` bytes and are cut by `cutter` when
     /// they are read.
@@ -75,6 +63,24 @@ impl<D: Disk, C: Cutter> FolderStore<D, C> {
             cutter,
             limit,
             faults: 0,
+        }
+    }
+
+    /// The result of a call. A fault of the device is counted.
+    fn told<T>(&mut self, answer: Result<T, StoreFault>) -> Result<T, StoreFault>
+        ensures answer { result ≡ answer }
+        ensures disk { self.new.disk ≡ self.old.disk }
+        ensures limit { self.new.limit ≡ self.old.limit }
+        ensures cause { calls.HasCause Device self.old.faults self.new.faults result }
+        ensures few { self.old.faults ≤ calls.last_count }
+    {
+        let risen = self.faults.saturating_add(1);
+        match answer {
+            Err(fault) if fault == StoreFault::Device => {
+                self.faults = risen;
+                Err(fault)
+            }
+            answer => answer,
         }
     }
 
@@ -112,13 +118,8 @@ impl<D: Disk, C: Cutter> NpyStore for FolderStore<D, C> {
         if !is_user_name(name) {
             return Ok(None);
         }
-        match read_file(&mut self.disk, alloc, &self.cutter, name, self.limit) {
-            Ok(found) => Ok(found),
-            Err(fault) => {
-                self.faults = counted(self.faults, fault);
-                Err(fault)
-            }
-        }
+        let found = read_file(&mut self.disk, alloc, &self.cutter, name, self.limit);
+        self.told(found)
     }
 
     /// A fault of the device is one of the disk, unless no file may have this name. A crash at any
@@ -153,16 +154,10 @@ impl<D: Disk, C: Cutter> NpyStore for FolderStore<D, C> {
         }
         let is_user = is_user_name(name);
         if !is_user {
-            self.faults = counted(self.faults, StoreFault::Device);
-            return Err(StoreFault::Device);
+            return self.told(Err(StoreFault::Device));
         }
-        match write_file(&mut self.disk, alloc, name, front, items) {
-            Ok(()) => Ok(()),
-            Err(fault) => {
-                self.faults = counted(self.faults, fault);
-                Err(fault)
-            }
-        }
+        let written = write_file(&mut self.disk, alloc, name, front, items);
+        self.told(written)
     }
 }
 

@@ -1,6 +1,6 @@
-use Rattle.std.proofs.Common.{◌≡◌, ◌++◌, IsTrue, false, Ok, Err, None, rules}
-use Rattle.npy_files.proofs.Words.{FileParts, unmoved, is_user_name}
-use Rattle.npy_files.proofs.UserFiles.{user_reads, no_user_file, told_read, told_same}
+use Rattle.std.proofs.Common.{◌≡◌, ◌++◌, IsTrue, false, Ok, None, rules}
+use Rattle.npy_files.proofs.Words.{FileParts, folder_shelf, unmoved, is_user_name}
+use Rattle.npy_files.proofs.UserFiles.{user_reads, no_user_file, told_read, told_same, counted}
 use Rattle.npy_files.proofs.folder_store.FolderStoreNpyStore.read_parts.Goals as goal
 
 pub returns-then-not-is_user_name-clause-found : goal.returns-then-not-is_user_name-clause-found
@@ -11,20 +11,14 @@ returns-then-not-is_user_name-clause-found g c = λ honest.
 pub returns-then-not-is_user_name-clause-crash : goal.returns-then-not-is_user_name-clause-crash
 returns-then-not-is_user_name-clause-crash g c = λ honest. unmoved _
 
-pub returns-in-Ok-clause-found : goal.returns-in-Ok-clause-found
-returns-in-Ok-clause-found g c = λ honest.
+pub returns-clause-found : goal.returns-clause-found
+returns-clause-found g c = λ honest.
     let user : IsTrue (is_user_name c.args.name.now) = search rules in
-    told_read (λ (parts : FileParts). parts.front.items ++ parts.block) g.D.Disk.honest (g.D.Disk.files c.args.self.now.disk) c.args.name.now c.args.self.now.limit (Ok c.in-Ok.found) honest
-    (user_reads (λ (parts : FileParts). parts.front.items ++ parts.block) (g.D.Disk.files c.args.self.now.disk) c.args.name.now c.args.self.now.limit (Ok c.in-Ok.found) user (c.in-Ok.ensures.found honest))
+    told_read (λ (parts : FileParts). parts.front.items ++ parts.block) g.D.Disk.honest (g.D.Disk.files c.args.self.now.disk) c.args.name.now c.args.self.now.limit c.told.result honest
+    (user_reads (λ (parts : FileParts). parts.front.items ++ parts.block) (g.D.Disk.files c.args.self.now.disk) c.args.name.now c.args.self.now.limit c.told.result user (rw c.told.ensures.answer (c.read_file-found.ensures.found honest)))
 
-pub returns-in-Err-clause-found : goal.returns-in-Err-clause-found
-returns-in-Err-clause-found g c = λ honest.
-    let user : IsTrue (is_user_name c.args.name.now) = search rules in
-    told_read (λ (parts : FileParts). parts.front.items ++ parts.block) g.D.Disk.honest (g.D.Disk.files c.args.self.now.disk) c.args.name.now c.args.self.now.limit (Err c.in-Err.fault) honest
-    (user_reads (λ (parts : FileParts). parts.front.items ++ parts.block) (g.D.Disk.files c.args.self.now.disk) c.args.name.now c.args.self.now.limit (Err c.in-Err.fault) user (c.in-Err.ensures.found honest))
+pub returns-clause-files : goal.returns-clause-files
+returns-clause-files g c = told_same g.D.Disk.honest (g.D.Disk.files c.args.self.now.disk) (g.D.Disk.files c.told.new.self.disk) (λ honest. rw c.told.ensures.disk (c.read_file-found.ensures.files honest))
 
-pub returns-in-Ok-clause-files : goal.returns-in-Ok-clause-files
-returns-in-Ok-clause-files g c = told_same g.D.Disk.honest (g.D.Disk.files c.args.self.now.disk) (g.D.Disk.files c.read_file.new.disk) c.in-Ok.ensures.files
-
-pub returns-in-Err-clause-files : goal.returns-in-Err-clause-files
-returns-in-Err-clause-files g c = told_same g.D.Disk.honest (g.D.Disk.files c.args.self.now.disk) (g.D.Disk.files c.read_file.new.disk) c.in-Err.ensures.files
+pub returns-clause-cause : goal.returns-clause-cause
+returns-clause-cause g c = counted (folder_shelf (g.D.Disk.files c.args.self.now.disk) c.args.self.now.faults c.args.self.now.limit g.D.Disk.honest) (folder_shelf (g.D.Disk.files c.told.new.self.disk) c.told.new.self.faults c.told.new.self.limit g.D.Disk.honest) c.told.result c.told.ensures.few c.told.ensures.cause

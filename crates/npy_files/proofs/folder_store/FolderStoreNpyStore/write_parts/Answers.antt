@@ -1,6 +1,6 @@
-use Rattle.std.proofs.Common.{◌++◌, IsTrue, Ok, Err, ap, rules, arith, length-append}
-use Rattle.npy_files.proofs.Words.{is_user_name}
-use Rattle.npy_files.proofs.UserFiles.{replaced, failed, told_written, told_kept}
+use Rattle.std.proofs.Common.{◌++◌, IsTrue, rules, arith, length-append}
+use Rattle.npy_files.proofs.Words.{folder_shelf, is_user_name}
+use Rattle.npy_files.proofs.UserFiles.{user_writes, told_written, told_kept, counted}
 use Rattle.npy_files.proofs.UserNames.{nothing_leaves}
 use Rattle.npy_files.proofs.folder_store.FolderStoreNpyStore.write_parts.Goals as goal
 
@@ -8,28 +8,22 @@ pub returns-then-is_longer-clause-crash : goal.returns-then-is_longer-clause-cra
 returns-then-is_longer-clause-crash g c = λ honest. nothing_leaves c.args.name.now (c.args.front.now ++ c.args.items.now) _
 
 pub returns-then-not-is_user-clause-crash : goal.returns-then-not-is_user-clause-crash
-returns-then-not-is_user-clause-crash g c = λ honest. nothing_leaves c.args.name.now (c.args.front.now ++ c.args.items.now) _
+returns-then-not-is_user-clause-crash g c = λ honest. rw c.told.ensures.disk (nothing_leaves c.args.name.now (c.args.front.now ++ c.args.items.now) _)
 
-pub returns-in-Ok-clause-written : goal.returns-in-Ok-clause-written
-returns-in-Ok-clause-written g c = λ honest.
+pub returns-clause-written : goal.returns-clause-written
+returns-clause-written g c = λ honest.
     let user : IsTrue (is_user_name c.args.name.now) = search rules in
-    told_written g.D.Disk.honest (g.D.Disk.files c.args.self.now.disk) (g.D.Disk.files c.write_file.new.disk) c.args.self.now.faults c.args.self.now.limit c.args.name.now (c.args.front.now ++ c.args.items.now) (Ok tt) honest
-    (replaced c.args.name.now (c.args.front.now ++ c.args.items.now) _ _ user (c.in-Ok.ensures.written honest), omega (arith, length-append c.args.front.now c.args.items.now))
+    told_written g.D.Disk.honest (g.D.Disk.files c.args.self.now.disk) (g.D.Disk.files c.told-2.new.self.disk) c.args.self.now.faults c.args.self.now.limit c.args.name.now (c.args.front.now ++ c.args.items.now) c.told-2.result honest
+    (rw (c.told-2.ensures.answer, c.told-2.ensures.disk) (user_writes c.args.name.now (c.args.front.now ++ c.args.items.now) _ _ c.args.self.now.faults c.args.self.now.limit g.D.Disk.honest _ user c.write_file-written.ensures.long (omega (arith, length-append c.args.front.now c.args.items.now)) (c.write_file-written.ensures.written honest)))
 
-pub returns-in-Ok-clause-kept : goal.returns-in-Ok-clause-kept
-returns-in-Ok-clause-kept g c =
+pub returns-clause-kept : goal.returns-clause-kept
+returns-clause-kept g c =
     let user : IsTrue (is_user_name c.args.name.now) = search rules in
-    told_kept g.D.Disk.honest (g.D.Disk.files c.args.self.now.disk) (g.D.Disk.files c.write_file.new.disk) c.args.self.now.faults c.args.self.now.limit c.args.name.now (c.args.front.now ++ c.args.items.now) (Ok tt)
-    (λ honest. (replaced c.args.name.now (c.args.front.now ++ c.args.items.now) _ _ user (c.in-Ok.ensures.written honest), omega (arith, length-append c.args.front.now c.args.items.now)))
+    told_kept g.D.Disk.honest (g.D.Disk.files c.args.self.now.disk) (g.D.Disk.files c.told-2.new.self.disk) c.args.self.now.faults c.args.self.now.limit c.args.name.now (c.args.front.now ++ c.args.items.now) c.told-2.result
+    (λ honest. rw (c.told-2.ensures.answer, c.told-2.ensures.disk) (user_writes c.args.name.now (c.args.front.now ++ c.args.items.now) _ _ c.args.self.now.faults c.args.self.now.limit g.D.Disk.honest _ user c.write_file-written.ensures.long (omega (arith, length-append c.args.front.now c.args.items.now)) (c.write_file-written.ensures.written honest)))
 
-pub returns-in-Err-clause-written : goal.returns-in-Err-clause-written
-returns-in-Err-clause-written g c = λ honest.
-    let user : IsTrue (is_user_name c.args.name.now) = search rules in
-    told_written g.D.Disk.honest (g.D.Disk.files c.args.self.now.disk) (g.D.Disk.files c.write_file.new.disk) c.args.self.now.faults c.args.self.now.limit c.args.name.now (c.args.front.now ++ c.args.items.now) (Err c.in-Err.fault) honest
-    (failed c.args.name.now (c.args.front.now ++ c.args.items.now) (g.D.Disk.files c.args.self.now.disk) (g.D.Disk.files c.write_file.new.disk) c.args.self.now.faults c.args.self.now.limit g.D.Disk.honest c.in-Err.fault user (λ is. c.in-Err.ensures.long (ap Err is)) (c.in-Err.ensures.written honest))
+pub returns-then-not-is_user-clause-cause : goal.returns-then-not-is_user-clause-cause
+returns-then-not-is_user-clause-cause g c = counted (folder_shelf (g.D.Disk.files c.args.self.now.disk) c.args.self.now.faults c.args.self.now.limit g.D.Disk.honest) (folder_shelf (g.D.Disk.files c.told.new.self.disk) c.told.new.self.faults c.told.new.self.limit g.D.Disk.honest) c.told.result c.told.ensures.few c.told.ensures.cause
 
-pub returns-in-Err-clause-kept : goal.returns-in-Err-clause-kept
-returns-in-Err-clause-kept g c =
-    let user : IsTrue (is_user_name c.args.name.now) = search rules in
-    told_kept g.D.Disk.honest (g.D.Disk.files c.args.self.now.disk) (g.D.Disk.files c.write_file.new.disk) c.args.self.now.faults c.args.self.now.limit c.args.name.now (c.args.front.now ++ c.args.items.now) (Err c.in-Err.fault)
-    (λ honest. failed c.args.name.now (c.args.front.now ++ c.args.items.now) (g.D.Disk.files c.args.self.now.disk) (g.D.Disk.files c.write_file.new.disk) c.args.self.now.faults c.args.self.now.limit g.D.Disk.honest c.in-Err.fault user (λ is. c.in-Err.ensures.long (ap Err is)) (c.in-Err.ensures.written honest))
+pub returns-clause-cause : goal.returns-clause-cause
+returns-clause-cause g c = counted (folder_shelf (g.D.Disk.files c.args.self.now.disk) c.args.self.now.faults c.args.self.now.limit g.D.Disk.honest) (folder_shelf (g.D.Disk.files c.told-2.new.self.disk) c.told-2.new.self.faults c.told-2.new.self.limit g.D.Disk.honest) c.told-2.result c.told-2.ensures.few c.told-2.ensures.cause
