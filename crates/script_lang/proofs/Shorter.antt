@@ -1,7 +1,7 @@
 -- A reader leaves fewer bytes than it was given.
 use Rattle.std.proofs.Common.{◌≡◌, ◌<◌, ◌≤◌, ℕ, zero, suc, Bool, true, false, List, [], ◌∷◌, length, Option, Some, None, arith, length-drop, nat_eq, codes, not, ◌==◌, subst, ℤ, nat_le, IfSome, if◌then◌else◌}
 use Rattle.script_lang.proofs.Words.{prefix_len, option_map, bytes_eq, eqb-suc-zero, IndexItem, Ellipsis, NewAxis, ScalarLiteral, Literal, ◌>>=◌, ◌or_else◌, if_found, where_true, is_blank, is_digit, is_name_byte, unspaced, byte_at, symbol_at, front_at, front_of, bytes_mark_at, is_parted, word_at, keyword_at, is_name, name_at, number_at, length_at, positive, negative, signed_at, integer_at, optional, optional_integer_at, in_turns, by_rule, closed, entry_first, comma_next, one_or_more, none_or_more, row, hex_value, hex_digit_at, escape_at, is_plain, plain_byte_at, text_byte_at, byte_text_at, integer_of, boolean_at, bytes_at, scalar_at, literal_of_scalar, record_at, literal_within, max_literal_depth, literal_at, step_at, slice_at, ellipsis_at, integer_item, item_with_rest, array_item, bare_item_at, index_item_at}
-use Rattle.script_lang.proofs.Rooms.{after_step, after_known}
+use Rattle.script_lang.proofs.Rooms.{after_step, after_known, mapped}
 
 -- fewer than `n` bytes remain: on their own, and after what is read
 abbrev pub Few : ℕ → List ℕ → Type 0
@@ -21,10 +21,6 @@ weaker P Q (Some x) known each = each x known
 either : {A : Type 0} (P : A → Type 0) (first second : Option A) → IfSome first P → IfSome second P → IfSome (first or_else second) P
 either P None second one two = two
 either P (Some x) second one two = one
-
-mapped : {A B : Type 0} (P : B → Type 0) (f : A → B) (o : Option A) → IfSome o (λ x. P (f x)) → IfSome (option_map f o) P
-mapped P f None known = tt
-mapped P f (Some x) known = known
 
 chosen : {A : Type 0} (P : A → Type 0) (t : Bool) (one other : Option A) → IfSome one P → IfSome other P → IfSome (if t then one else other) P
 chosen P true one other first second = first

@@ -1,6 +1,6 @@
 -- How the result of the parser relates to what a line says.
 use Rattle.std.specs.Prelude.{◌≡◌, ◌⊎◌, Bool, true, false, IsTrue, IfSome, ℕ, List, Option, Some, None, is_some, Result, Ok, Err, length, nat_lt, ◌||◌}
-use Rattle.script_lang.specs.Words.{Refusal, ByteNotAllowed, Syntax, OutOfMemory, IndexItem}
+use Rattle.script_lang.specs.Words.{Refusal, ByteNotAllowed, Syntax, OutOfMemory, IndexItem, Bor}
 use Rattle.script_lang.specs.declared.literal.ScalarLiteral.{ScalarLiteral}
 use Rattle.script_lang.specs.declared.literal.ScalarLiteral.TheVariants.{Bytes}
 use Rattle.script_lang.specs.declared.literal.Literal.{Literal}
@@ -98,3 +98,7 @@ abbrev pub Reads : {X Y : Type 0} → (X → Y) → (Y → Bool) → Result X Re
 Reads view takes_memory (Ok x) there = there ≡ Some (view x)
 Reads view takes_memory (Err refusal) there =
     ((refusal ≡ Syntax) × (there ≡ None)) ⊎ ((refusal ≡ OutOfMemory) × IfSome there (λ y. IsTrue (takes_memory y)))
+
+-- such a reader of bytes, which also returns the bytes after what it read
+abbrev pub Takes : {X : Type 0} → (X → Bool) → Result (X × Bor (List ℕ)) Refusal → Option (X × List ℕ) → Type 0
+Takes takes_memory result there = Reads (λ r. (r.0, r.1.now)) (λ r. takes_memory r.0) result there

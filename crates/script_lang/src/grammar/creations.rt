@@ -1,6 +1,6 @@
 //! What follows `X =` and makes an array: `zeros`, `full`, `arange` and `array`.
 ghost use Rattle.std.specs.Prelude.{◌≡◌, true};
-ghost use Rattle.script_lang.specs.Clauses.{zeros_at, full_at, arange_at, new_array_at, new_items_at, make_at, Reads, value_room};
+ghost use Rattle.script_lang.specs.Clauses.{zeros_at, full_at, arange_at, new_array_at, new_items_at, make_at, Takes, value_room};
 
 use crate::command::{NewItems, Value};
 use crate::grammar::descriptors::descr;
@@ -14,7 +14,7 @@ use std::alloc::Global;
 /// What the items are, after the descriptor.
 #[tactic(auto, unfolding(crate::specs::Commands::zeros_at, crate::specs::Commands::full_at, crate::specs::Commands::arange_at, crate::specs::Commands::new_array_at, crate::specs::Literals::literals_at), using(crate::proofs::Lists::any_list))]
 fn new_items(alloc: Global, verb: MakeVerb, bytes: &[u8]) -> Result<(NewItems, &[u8]), Refusal>
-    ensures { Reads (λ r. (r.0, r.1.now)) (λ _. true) result (new_items_at verb bytes.now) }
+    ensures { Takes (λ _. true) result (new_items_at verb bytes.now) }
 {
     match verb {
         MakeVerb::Zeros => {
@@ -43,7 +43,7 @@ fn new_items(alloc: Global, verb: MakeVerb, bytes: &[u8]) -> Result<(NewItems, &
 /// A descriptor, and what the items are.
 #[tactic(auto, unfolding(crate::specs::Commands::make_at), using(crate::proofs::Commands::make_room))]
 pub fn make(alloc: Global, verb: MakeVerb, bytes: &[u8]) -> Result<(Value, &[u8]), Refusal>
-    ensures { Reads (λ r. (r.0, r.1.now)) (λ r. value_room r.0) result (make_at verb bytes.now) }
+    ensures { Takes value_room result (make_at verb bytes.now) }
 {
     let (descr, rest) = descr(bytes).ok_or(Refusal::Syntax)?;
     let descr = Text::from_slice(alloc, descr)?;

@@ -1,6 +1,6 @@
 //! Index lists, and operands with an index list.
 ghost use Rattle.std.specs.Prelude.{◌≤◌, length};
-ghost use Rattle.script_lang.specs.Clauses.{by_rule, one_or_more, slice_at, ellipsis_at, index_item_at, index_at, bracket_at, optional_index_at, operand_named, operand_at, argument_at, Scans, Reads, index_room, optional_index_room, operand_room, argument_room};
+ghost use Rattle.script_lang.specs.Clauses.{by_rule, one_or_more, slice_at, ellipsis_at, index_item_at, index_at, bracket_at, optional_index_at, operand_named, operand_at, argument_at, Scans, Takes, index_room, optional_index_room, operand_room, argument_room};
 
 use crate::command::{Argument, Index, Operand};
 use crate::grammar::literals::literal;
@@ -58,8 +58,7 @@ fn item(alloc: Global, bytes: &[u8]) -> Option<(IndexItem<Name>, &[u8])>
 
 /// Items separated by commas, up to the closing bracket, and what follows it.
 fn items(alloc: Global, bytes: &[u8]) -> Result<(Index, &[u8]), Refusal>
-    ensures { Reads (λ r. (r.0, r.1.now)) (λ r. index_room r.0) result
-        (by_rule (one_or_more index_item_at 93) bytes.now) }
+    ensures { Takes index_room result (by_rule (one_or_more index_item_at 93) bytes.now) }
 {
     let mut index = Index::new(alloc);
     let mut rest = bytes;
@@ -81,7 +80,7 @@ fn items(alloc: Global, bytes: &[u8]) -> Result<(Index, &[u8]), Refusal>
 /// The index list after `[`, and what follows its closing bracket.
 #[tactic(auto, unfolding(crate::specs::Indexes::index_at), using(crate::proofs::Rooms::index_list_room))]
 fn index(alloc: Global, bytes: &[u8]) -> Result<(Index, &[u8]), Refusal>
-    ensures { Reads (λ r. (r.0, r.1.now)) (λ r. index_room r.0) result (index_at bytes.now) }
+    ensures { Takes index_room result (index_at bytes.now) }
 {
     let (index, rest) = items(alloc, bytes)?;
     let ellipses = index.as_slice().iter().filter(|item| item.is_ellipsis());
@@ -94,7 +93,7 @@ fn index(alloc: Global, bytes: &[u8]) -> Result<(Index, &[u8]), Refusal>
 /// The index list in the brackets at the front, and what follows them.
 #[tactic(auto, unfolding(crate::specs::Indexes::bracket_at))]
 pub fn bracket(alloc: Global, bytes: &[u8]) -> Result<(Index, &[u8]), Refusal>
-    ensures { Reads (λ r. (r.0, r.1.now)) (λ r. index_room r.0) result (bracket_at bytes.now) }
+    ensures { Takes index_room result (bracket_at bytes.now) }
 {
     let inside = byte(b'[', bytes).ok_or(Refusal::Syntax)?;
     index(alloc, inside)
@@ -104,8 +103,7 @@ pub fn bracket(alloc: Global, bytes: &[u8]) -> Result<(Index, &[u8]), Refusal>
 /// follows.
 #[tactic(auto, unfolding(crate::specs::Indexes::optional_index_at), using(crate::proofs::Rooms::optional_index_list_room))]
 pub fn optional_index(alloc: Global, bytes: &[u8]) -> Result<(Option<Index>, &[u8]), Refusal>
-    ensures { Reads (λ r. (r.0, r.1.now)) (λ r. optional_index_room r.0) result
-        (optional_index_at bytes.now) }
+    ensures { Takes optional_index_room result (optional_index_at bytes.now) }
 {
     let Some(inside) = byte(b'[', bytes) else {
         return Ok((None, bytes));
@@ -122,8 +120,7 @@ fn operand_named<'a>(
     bytes: &'a [u8],
 ) -> Result<(Operand, &'a [u8]), Refusal>
     requires { length name.now ≤ 32 }
-    ensures { Reads (λ r. (r.0, r.1.now)) (λ r. operand_room r.0) result
-        (operand_named (name.now, bytes.now)) }
+    ensures { Takes operand_room result (operand_named (name.now, bytes.now)) }
 {
     let (index, rest) = optional_index(alloc, bytes)?;
     let name = Name::from_slice(alloc, name);
@@ -133,7 +130,7 @@ fn operand_named<'a>(
 /// The next operand, and what follows it.
 #[tactic(auto, unfolding(crate::specs::Indexes::operand_at))]
 pub fn operand(alloc: Global, bytes: &[u8]) -> Result<(Operand, &[u8]), Refusal>
-    ensures { Reads (λ r. (r.0, r.1.now)) (λ r. operand_room r.0) result (operand_at bytes.now) }
+    ensures { Takes operand_room result (operand_at bytes.now) }
 {
     let (name, rest) = name(bytes).ok_or(Refusal::Syntax)?;
     operand_named(alloc, name, rest)
@@ -143,7 +140,7 @@ pub fn operand(alloc: Global, bytes: &[u8]) -> Result<(Operand, &[u8]), Refusal>
 /// byte string.
 #[tactic(auto, unfolding(crate::specs::Indexes::bare_name_at, crate::specs::Indexes::argument_at), using(crate::proofs::Rooms::operand_argument_room, crate::proofs::Rooms::literal_argument_room))]
 pub fn argument(alloc: Global, bytes: &[u8]) -> Result<(Argument, &[u8]), Refusal>
-    ensures { Reads (λ r. (r.0, r.1.now)) (λ r. argument_room r.0) result (argument_at bytes.now) }
+    ensures { Takes argument_room result (argument_at bytes.now) }
 {
     let bytes = unspaced(bytes);
     if bytes_mark(bytes).is_none()

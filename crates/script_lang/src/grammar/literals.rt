@@ -1,6 +1,6 @@
 //! Literals.
 ghost use Rattle.std.specs.Prelude.{◌<◌, true, IfSome};
-ghost use Rattle.script_lang.specs.Clauses.{byte_at, by_rule, none_or_more, row, hex_value, hex_digit_at, escape_at, text_byte_at, byte_text_at, boolean_at, bytes_at, scalar_at, record_at, literal_within, literal_at, line_end_at, literals_of, Scans, Reads, scalar_room, literal_room};
+ghost use Rattle.script_lang.specs.Clauses.{byte_at, by_rule, none_or_more, row, hex_value, hex_digit_at, escape_at, text_byte_at, byte_text_at, boolean_at, bytes_at, scalar_at, record_at, literal_within, literal_at, line_end_at, literals_of, Scans, Reads, Takes, scalar_room, literal_room};
 
 use crate::grammar::numbers::integer;
 use crate::grammar::tokens::{byte, bytes_mark, is_at_end, symbol, unspaced, word};
@@ -43,8 +43,7 @@ fn text_byte(bytes: &[u8]) -> Option<(u8, &[u8])>
 
 /// The bytes up to the apostrophe, and what follows it.
 fn byte_row(alloc: Global, bytes: &[u8]) -> Result<(ByteText, &[u8]), Refusal>
-    ensures { Reads (λ r. (r.0, r.1.now)) (λ _. true) result
-        (by_rule (row text_byte_at (byte_at 39)) bytes.now) }
+    ensures { Takes (λ _. true) result (by_rule (row text_byte_at (byte_at 39)) bytes.now) }
 {
     let mut text = ByteText::new(alloc);
     let mut rest = bytes;
@@ -63,7 +62,7 @@ fn byte_row(alloc: Global, bytes: &[u8]) -> Result<(ByteText, &[u8]), Refusal>
 /// The scalar literal at the front, and what follows it.
 #[tactic(auto, unfolding(crate::specs::Literals::scalar_at, crate::specs::Literals::bytes_at, crate::specs::Literals::byte_text_at, crate::specs::Literals::boolean_at), using(crate::proofs::Rooms::bytes_room))]
 fn scalar(alloc: Global, bytes: &[u8]) -> Result<(ScalarLiteral, &[u8]), Refusal>
-    ensures { Reads (λ r. (r.0, r.1.now)) (λ r. scalar_room r.0) result (scalar_at bytes.now) }
+    ensures { Takes scalar_room result (scalar_at bytes.now) }
 {
     if let Some(inside) = bytes_mark(bytes) {
         let (text, rest) = byte_row(alloc, inside)?;
@@ -108,8 +107,7 @@ fn values(alloc: Global, depth: usize, bytes: &[u8]) -> Result<(RecordLiteral, &
 #[tactic(auto, unfolding(crate::specs::Literals::record_at), using(crate::proofs::Rooms::record_room))]
 #[cycle(nesting)]
 fn record(alloc: Global, depth: usize, bytes: &[u8]) -> Result<(Literal, &[u8]), Refusal>
-    ensures { Reads (λ r. (r.0, r.1.now)) (λ r. literal_room r.0) result
-        (record_at (literal_within depth) bytes.now) }
+    ensures { Takes literal_room result (record_at (literal_within depth) bytes.now) }
 {
     let (values, rest) = values(alloc, depth, bytes)?;
     if values.is_empty() {
@@ -122,8 +120,7 @@ fn record(alloc: Global, depth: usize, bytes: &[u8]) -> Result<(Literal, &[u8]),
 #[tactic(auto, unfolding(crate::specs::Literals::literal_within), using(crate::proofs::Rooms::scalar_literal_room))]
 #[cycle(nesting)]
 fn literal_within(alloc: Global, depth: usize, bytes: &[u8]) -> Result<(Literal, &[u8]), Refusal>
-    ensures { Reads (λ r. (r.0, r.1.now)) (λ r. literal_room r.0) result
-        (literal_within depth bytes.now) }
+    ensures { Takes literal_room result (literal_within depth bytes.now) }
 {
     let bytes = unspaced(bytes);
     if depth > 0
@@ -138,15 +135,14 @@ fn literal_within(alloc: Global, depth: usize, bytes: &[u8]) -> Result<(Literal,
 /// The next literal, and what follows it.
 #[tactic(auto, unfolding(crate::specs::Literals::literal_at))]
 pub fn literal(alloc: Global, bytes: &[u8]) -> Result<(Literal, &[u8]), Refusal>
-    ensures { Reads (λ r. (r.0, r.1.now)) (λ r. literal_room r.0) result (literal_at bytes.now) }
+    ensures { Takes literal_room result (literal_at bytes.now) }
 {
     literal_within(alloc, MAX_LITERAL_DEPTH, bytes)
 }
 
 /// The literals up to the end of the line, and the blanks that remain there.
 pub fn literals(alloc: Global, bytes: &[u8]) -> Result<(Literals, &[u8]), Refusal>
-    ensures { Reads (λ r. (r.0, r.1.now)) (λ _. true) result
-        (by_rule (row literal_at line_end_at) bytes.now) }
+    ensures { Takes (λ _. true) result (by_rule (row literal_at line_end_at) bytes.now) }
 {
     let mut literals = Literals::new(alloc);
     let mut rest = bytes;

@@ -1,6 +1,6 @@
 //! Numbers without a sign, integers, and the lists of numbers between parentheses.
 ghost use Rattle.std.specs.Prelude.{IfSome, length, true, ◌<◌, ◌^◌, ◌≡◌, ◌≤◌};
-ghost use Rattle.script_lang.specs.Clauses.{value_of, shape_at, signed_shape_at, Reads, Scans, integer_at, is_digit, length_at, number_at, optional_integer_at, list_all};
+ghost use Rattle.script_lang.specs.Clauses.{value_of, shape_at, signed_shape_at, Takes, Scans, integer_at, is_digit, length_at, number_at, optional_integer_at, list_all};
 
 use crate::command::{Integers, Lengths};
 use crate::grammar::tokens::{Class, byte, front, is_parted, symbol, unspaced};
@@ -76,7 +76,7 @@ pub fn optional_integer(bytes: &[u8]) -> (Option<i128>, &[u8])
 /// The next shape, and what follows it.
 #[tactic(auto, unfolding(crate::specs::Indexes::shape_at))]
 pub fn shape(alloc: Global, bytes: &[u8]) -> Result<(Lengths, &[u8]), Refusal>
-    ensures { Reads (λ r. (r.0, r.1.now)) (λ _. true) result (shape_at bytes.now) }
+    ensures { Takes (λ _. true) result (shape_at bytes.now) }
 {
     let mut lengths = Lengths::new(alloc);
     let mut rest = symbol(b'(', bytes).ok_or(Refusal::Syntax)?;
@@ -101,7 +101,7 @@ pub fn shape(alloc: Global, bytes: &[u8]) -> Result<(Lengths, &[u8]), Refusal>
 /// The next shape with signs, and what follows it.
 #[tactic(auto, unfolding(crate::specs::Indexes::signed_shape_at))]
 pub fn signed_shape(alloc: Global, bytes: &[u8]) -> Result<(Integers, &[u8]), Refusal>
-    ensures { Reads (λ r. (r.0, r.1.now)) (λ _. true) result (signed_shape_at bytes.now) }
+    ensures { Takes (λ _. true) result (signed_shape_at bytes.now) }
 {
     let mut integers = Integers::new(alloc);
     let mut rest = symbol(b'(', bytes).ok_or(Refusal::Syntax)?;

@@ -1,6 +1,6 @@
 //! The commands that bind no name.
 ghost use Rattle.std.specs.Prelude.{◌≡◌};
-ghost use Rattle.script_lang.specs.Clauses.{asked_at, question_at, set_at, update_at, Reads, Scans, parts_take_memory};
+ghost use Rattle.script_lang.specs.Clauses.{asked_at, question_at, set_at, update_at, Takes, Scans, parts_take_memory};
 
 use crate::command::{Command, Question};
 use crate::grammar::indexes::{argument, bracket};
@@ -13,7 +13,7 @@ use std::alloc::Global;
 /// `X[ix] = Z`, after `set`.
 #[tactic(auto, unfolding(crate::specs::Commands::set_at), using(crate::proofs::Commands::set_index_room, crate::proofs::Commands::set_value_room))]
 pub fn set(alloc: Global, bytes: &[u8]) -> Result<(Command, &[u8]), Refusal>
-    ensures { Reads (λ r. (r.0, r.1.now)) (λ r. parts_take_memory r.0) result (set_at bytes.now) }
+    ensures { Takes parts_take_memory result (set_at bytes.now) }
 {
     let (name, rest) = name(bytes).ok_or(Refusal::Syntax)?;
     let (index, rest) = match bracket(alloc, rest) {
@@ -32,8 +32,7 @@ pub fn set(alloc: Global, bytes: &[u8]) -> Result<(Command, &[u8]), Refusal>
 /// `X[ix] OP Z`, after `upd`.
 #[tactic(auto, unfolding(crate::specs::Commands::update_at, crate::specs::Verbs::operation_of), using(crate::proofs::Commands::update_index_room, crate::proofs::Commands::update_value_room))]
 pub fn update(alloc: Global, bytes: &[u8]) -> Result<(Command, &[u8]), Refusal>
-    ensures { Reads (λ r. (r.0, r.1.now)) (λ r. parts_take_memory r.0) result
-        (update_at bytes.now) }
+    ensures { Takes parts_take_memory result (update_at bytes.now) }
 {
     let (name, rest) = name(bytes).ok_or(Refusal::Syntax)?;
     let (index, rest) = match bracket(alloc, rest) {

@@ -1,5 +1,5 @@
 //! What follows `X =` and shows the items of another array.
-ghost use Rattle.script_lang.specs.Clauses.{plain_view_at, viewing_at, view_at, Reads, viewing_room, value_room};
+ghost use Rattle.script_lang.specs.Clauses.{plain_view_at, viewing_at, view_at, Takes, viewing_room, value_room};
 
 use crate::command::{Value, Viewing};
 use crate::grammar::indexes::optional_index;
@@ -19,8 +19,7 @@ pub fn plain_view<'a>(
     word: &[u8],
     bytes: &'a [u8],
 ) -> Result<(Value, &'a [u8]), Refusal>
-    ensures { Reads (λ r. (r.0, r.1.now)) (λ r. value_room r.0) result
-        (plain_view_at (word.now, bytes.now)) }
+    ensures { Takes value_room result (plain_view_at (word.now, bytes.now)) }
 {
     if !names_unless_verb(word) {
         return Err(Refusal::Syntax);
@@ -37,8 +36,7 @@ pub fn plain_view<'a>(
 /// How the items are viewed, after the name.
 #[tactic(auto, unfolding(crate::specs::Commands::field_name_at, crate::specs::Commands::transpose_at, crate::specs::Commands::reshape_at, crate::specs::Commands::broadcast_at), using(crate::proofs::Commands::field_room, crate::proofs::Commands::transpose_room, crate::proofs::Commands::reshape_room, crate::proofs::Commands::broadcast_room))]
 fn viewing(alloc: Global, verb: ViewVerb, bytes: &[u8]) -> Result<(Viewing, &[u8]), Refusal>
-    ensures { Reads (λ r. (r.0, r.1.now)) (λ r. viewing_room r.0) result
-        (viewing_at verb bytes.now) }
+    ensures { Takes viewing_room result (viewing_at verb bytes.now) }
 {
     match verb {
         ViewVerb::Field => {
@@ -65,7 +63,7 @@ fn viewing(alloc: Global, verb: ViewVerb, bytes: &[u8]) -> Result<(Viewing, &[u8
 /// A name, and how its array is viewed.
 #[tactic(auto, unfolding(crate::specs::Commands::view_at), using(crate::proofs::Commands::view_room))]
 pub fn view(alloc: Global, verb: ViewVerb, bytes: &[u8]) -> Result<(Value, &[u8]), Refusal>
-    ensures { Reads (λ r. (r.0, r.1.now)) (λ r. value_room r.0) result (view_at verb bytes.now) }
+    ensures { Takes value_room result (view_at verb bytes.now) }
 {
     let (source, rest) = name(bytes).ok_or(Refusal::Syntax)?;
     let (how, rest) = viewing(alloc, verb, rest)?;
