@@ -1,6 +1,6 @@
 -- Names from std, from the crates below and from `specs/`, which the proofs use.
 pub use Rattle.elem_descr.specs.declared.scalar.Scalar.TheVariants.{Int as IntScalar}
-pub use Rattle.literal_items.specs.LiteralItems.{can_be_item, can_hold, field_values, is_castable, is_in_range, is_item_in_range, leaf_value, literal_bytes, literal_number, stand_for, values_of}
+pub use Rattle.literal_items.specs.LiteralItems.{can_be_item, can_hold, field_values, is_castable, is_item_in_range, leaf_value, literal_bytes, literal_number, stand_for, values_of}
 unfoldable pub use Rattle.literal_items.specs.LiteralItems.{item_value, item_values}
 pub use Rattle.literal_items.specs.RangeItems.{range_count, range_numbers}
 unfoldable pub use Rattle.literal_items.specs.RangeItems.{range_items, range_length}

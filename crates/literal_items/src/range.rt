@@ -76,32 +76,8 @@ fn low_bits(number: &i128) -> u64
     number.rem_euclid(1 << 64) as u64
 }
 
-/// Appends the first `count` of the numbers start, start + step, .., which are counted by their
-/// lowest 64 bits.
-fn push_numbers<N: Number, O: Ordered>(
-    block: BlockBuilder,
-    start: &i128,
-    step: &i128,
-    count: usize,
-) -> BlockBuilder
-    requires values { list_all (is_value (N.scalar O.order))
-        (numbers_from start.now step.now count) ≡ true }
-    requires room { count * N.WIDTH ≤ block.1 }
-    ensures bytes { result.0 ≡ block.0
-        ++ joined (numbered (N.scalar O.order) start.now step.now) count }
-    ensures left { count * N.WIDTH + result.1 ≡ block.1 }
-{
-    let mut block = block;
-    let mut bits = low_bits(start);
-    let step = low_bits(step);
-    for _done in 0..count {
-        N::of_bits(bits).push::<O>(&mut block);
-        bits = bits.wrapping_add(step);
-    }
-    block
-}
-
-/// The first `count` of the numbers start, start + step, .., which are to be appended.
+/// The first `count` of the numbers start, start + step, .., which are to be appended. They are
+/// counted by their lowest 64 bits.
 struct Counting<'a> {
     start: &'a i128,
     step: &'a i128,
@@ -125,9 +101,15 @@ impl<'a> NumberTask for Counting<'a> {
             start,
             step,
             count,
-            block,
+            mut block,
         } = self;
-        push_numbers::<N, O>(block, start, step, count)
+        let mut bits = low_bits(start);
+        let step = low_bits(step);
+        for _done in 0..count {
+            N::of_bits(bits).push::<O>(&mut block);
+            bits = bits.wrapping_add(step);
+        }
+        block
     }
 }
 
