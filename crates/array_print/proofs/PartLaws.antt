@@ -1,6 +1,6 @@
 -- Laws of the parts of an array.
 use Rattle.std.proofs.Common.{◌≡◌, ℕ, ◌+◌, ◌*◌, ◌<◌, ◌≤◌, ℤ, pos, ◌+ℤ◌, ◌*ℤ◌, ◌≤ℤ◌, List, [], ◌∷◌, length, map, take, drop, get_or, refl, sym, ◌∙◌, ap, subst, arith, All, mul_comm, zero-mul, length-drop}
-use Rattle.array_print.proofs.Words.{ints, length-map, length-take, get_or-map, get_or-take, get_or-drop, same_lists, drop_more, drop_all, +ℤ_assoc, +ℤ_idr, *ℤ-zero, Layout, count, indexes, zero_filled, dot-zeros, IsIndex-first, dot, natural, address_at, LieWithin, length-indexes, get_or-blocks, factors_pos, mul-step, offsets, max_bytes, fits-offsets, offsets_at, IsPart, part_offsets}
+use Rattle.array_print.proofs.Words.{ints, length-map, length-take, get_or-map, get_or-take, get_or-drop, same_lists, drop_more, drop_all, +ℤ_assoc, +ℤ_idr, *ℤ-zero, Layout, count, indexes, zero_filled, dot-zeros, IsIndex-first, dot, natural, address_at, LieWithin, length-indexes, get_or-blocks, factors_pos, mul-step, offsets, max_bytes, fits-offsets, offsets_at, IsPart, LeadsOn, part_offsets}
 
 -- ---- one axis, and those inside it
 
@@ -70,15 +70,18 @@ module _ (l : Layout) (axis start len item : ℕ) (below : axis < length l.shape
   pub part-some : (0 < (get_or l.shape axis 0)) × (0 < count (drop (axis + 1) l.shape))
   part-some = factors_pos (get_or l.shape axis 0) (count (drop (axis + 1) l.shape)) (subst (λ shape. 0 < count shape) (outer l axis below).0 is_part.some)
 
-  pub part-step : (k : ℕ) → k < (get_or l.shape axis 0) → (pos 0 ≤ℤ (pos start +ℤ (get_or l.strides axis (pos 0)) *ℤ pos k)) × ((pos start +ℤ (get_or l.strides axis (pos 0)) *ℤ pos k) ≤ℤ pos max_bytes)
+  part-step : (k : ℕ) → k < (get_or l.shape axis 0) → (pos 0 ≤ℤ (pos start +ℤ (get_or l.strides axis (pos 0)) *ℤ pos k)) × ((pos start +ℤ (get_or l.strides axis (pos 0)) *ℤ pos k) ≤ℤ pos max_bytes)
   part-step k low =
       let both = step-lies (get_or l.shape axis 0) (drop (axis + 1) l.shape) (get_or l.strides axis (pos 0)) (drop (axis + 1) l.strides) start k max_bytes 1 low part-some.1 (lie max_bytes 1 is_part.small) in
       (both.0, omega (arith, ints, both.1))
 
-  pub part-start : start ≤ max_bytes
+  part-start : start ≤ max_bytes
   part-start =
       let within : pos start ≤ℤ pos max_bytes = subst (λ z. z ≤ℤ pos max_bytes) (sym (at-first (get_or l.strides axis (pos 0)) start)) (part-step 0 part-some.0).1 in
       omega (arith, ints, within)
+
+  pub part-leads : (k : ℕ) (strides : List ℤ) → k < (get_or l.shape axis 0) → strides ≡ l.strides → LeadsOn strides axis start k
+  part-leads k strides low are = let step = part-step k low in rw are (record { start = part-start; low = step.0; high = step.1 })
 
   pub part-inner : (k next : ℕ) → k < (get_or l.shape axis 0) → pos next ≡ pos start +ℤ (get_or l.strides axis (pos 0)) *ℤ pos k → IsPart l (axis + 1) next len item
   part-inner k next low is = record {

@@ -4,13 +4,12 @@ use Rattle.array_print.proofs.Words.{append-nil, take_at, drop_at, take-take, ta
 
 -- ---- a list that begins with another
 
-pub StartsWith-append : (xs ys : List ℕ) → StartsWith (xs ++ ys) xs
-StartsWith-append xs ys = take_at xs ys (length xs) refl
+pub StartsWith-pushed : (new old more : List ℕ) → new ≡ old ++ more → StartsWith new old
+StartsWith-pushed new old more grown = ap (λ l. take (length old) l) grown ∙ take_at old more (length old) refl
 
 -- a text that starts with a longer text starts with its beginning
 pub StartsWith-along : (new mid old more : List ℕ) → mid ≡ old ++ more → StartsWith new mid → StartsWith new old
-StartsWith-along new mid old more grown kept =
-    StartsWith-trans new mid old kept (ap (λ l. take (length old) l) grown ∙ StartsWith-append old more)
+StartsWith-along new mid old more grown kept = StartsWith-trans new mid old kept (StartsWith-pushed mid old more grown)
 
 -- ---- blocks
 

@@ -1,6 +1,7 @@
 -- The whole text of an array, as the block that all its axes lead to.
-use Rattle.std.proofs.Common.{◌≡◌, ℕ, List, [], ◌∷◌, cond, codes, map, drop, refl, sym, ◌∙◌, ap, arith, zero, suc, ◌<◌}
-use Rattle.array_print.proofs.Words.{ne_eqb, Descr, Layout, count, offsets, array_text, block_text, item_text, widths, items_from, shown, part_offsets}
+use Rattle.std.proofs.Common.{◌≡◌, ℕ, List, [], ◌∷◌, cond, codes, map, drop, refl, sym, subst, ◌∙◌, ap, arith, zero, suc, ◌<◌}
+use Rattle.array_print.proofs.Words.{ne_eqb, AreWidths, leaves_of, Descr, Layout, count, offsets, array_text, block_text, item_text, widths, items_from, shown, part_offsets}
+use Rattle.array_print.proofs.LeafLaws.{are-widths}
 use Rattle.array_print.proofs.PartLaws.{whole-offsets}
 
 texts-shown : (descr : Descr) (ws block offs : List ℕ) → map (shown descr ws block) offs ≡ map (item_text descr ws) (items_from descr block offs)
@@ -10,6 +11,10 @@ texts-shown descr ws block (offset ∷ offs) = ap (λ l. shown descr ws block of
 pub above : (n : ℕ) → (n ≡ 0 → ⊥) → 0 < n
 above zero some = absurd (some refl)
 above (suc n) some = omega arith
+
+-- texts may have the widths that an array's texts have
+pub whole-widths : (descr : Descr) (l : Layout) (block ws : List ℕ) → ws ≡ widths descr l.shape (items_from descr block (offsets l)) → AreWidths (leaves_of descr) ws
+whole-widths descr l block ws wide = subst (AreWidths (leaves_of descr)) (sym wide) (are-widths descr l.shape (items_from descr block (offsets l)))
 
 -- the whole layout is printed as one block, inside no bracket
 pub whole-text : (descr : Descr) (l : Layout) (block ws : List ℕ) → (count l.shape ≡ 0 → ⊥) → ws ≡ widths descr l.shape (items_from descr block (offsets l)) →

@@ -6,7 +6,7 @@ pub use Rattle.array_print.specs.StartLaws.{StartsWith-trans}
 pub use Rattle.array_print.specs.Words.{Appends, Big, BoolScalar, Byte, Bytes, Descr, Eight, Field, Fields, Four, Int, IsIndex-first, Layout, Leaf, LeafValue, LieWithin, Little, RecordDescr, Scalar, ScalarDescr, StartsWith, Structure, Two, address_at, append-nil, before, blocks, count, decode, dot, dot-zeros, factors_pos, fields_of, fits-offsets, get_or-blocks, indexes, item_from, item_size, leaf_count, leaf_count-before, leaf_value, leaves_of, length-indexes, length-leaves_from, length-take, listed, listed-fields_of, max_bytes, mul-step, natural, no_more, offsets-none, offsets_at, record_field, rest_at, scalar_field, size, take-take, total, weight, weight-one, zero_filled}
 unfoldable pub use Rattle.array_print.specs.Words.{offsets}
 pub use Rattle.array_print.specs.inside.Opened.{opened}
-pub use Rattle.array_print.specs.inside.Parts.{IsPart, part_offsets}
+pub use Rattle.array_print.specs.inside.Parts.{IsPart, LeadsOn, part_offsets}
 pub use Rattle.array_print.specs.inside.Shown.{AreWidths, IsWidth, lead, repeated, shown, texts_at, widths_at}
 pub use Rattle.std.proofs.Math.Seq.{take-append_seam}
 pub use Rattle.std.proofs.lemmas.Bool.{ne_eqb}

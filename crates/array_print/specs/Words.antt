@@ -35,3 +35,4 @@ pub use Rattle.std.specs.Fmt.{signed_decimal}
 pub use Rattle.std.specs.Io.{StartsWith}
 pub use Rattle.std.specs.Io.KnownBytes.{Appends}
 pub use Rattle.std.specs.List.{AllZip}
+pub use Rattle.std.specs.declared.alloc.Global.{Global}

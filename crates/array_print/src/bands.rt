@@ -1,6 +1,6 @@
 //! The text of an array, sent while it is made. Of a long text, little more than a band is held.
-ghost use Rattle.std.specs.Prelude.{All, IfOk, IsErrOf, List, OnErr, OnOk, drop, get_or, length, map, vec_capacity, ℕ, ◌++◌, ◌+◌, ◌<◌, ◌≡◌, ◌≤◌};
-ghost use Rattle.array_print.specs.Clauses.{array_text, block_text, items_from, Sends, SendsPart, item_size, leaves_of, offsets, Memory, WriteOut, Grows, IsPart, part_offsets, AreWidths, shown, Appends, StartsWith};
+ghost use Rattle.std.specs.Prelude.{All, IfOk, IsErrOf, List, OnErr, OnOk, get_or, length, vec_capacity, ℕ, ◌++◌, ◌+◌, ◌<◌, ◌≡◌, ◌≤◌};
+ghost use Rattle.array_print.specs.Clauses.{array_text, items_from, Sends, SendsPart, item_size, offsets, Memory, WriteOut, AreItemsAt, Grows, part_offsets, part_text, text_at, Appends, StartsWith};
 
 use crate::padding::{push_again, push_lead};
 use crate::printer::{Items, push_block, repeats, step_along};
@@ -95,13 +95,9 @@ fn push_run(
 ) -> Result<usize, AllocError>
     requires axis { axis < length bands.now.layout.now.shape }
     requires block { k < get_or bands.now.layout.now.shape axis 0 }
-    requires widths { AreWidths (leaves_of bands.now.items.descr.now) bands.now.items.widths.now }
-    requires part { IsPart bands.now.layout.now axis offset (length bands.now.items.block.now)
-        (item_size bands.now.items.descr.now) }
-    ensures grows { IfOk result (λ n. Grows
-        (shown bands.now.items.descr.now bands.now.items.widths.now bands.now.items.block.now)
-        bands.now.layout.now.shape axis k n (part_offsets bands.now.layout.now axis offset)
-        out.old.items out.new.items) }
+    requires items { AreItemsAt bands.now.items bands.now.layout.now axis offset }
+    ensures grows { IfOk result (λ n. Grows (text_at bands.now.items) bands.now.layout.now.shape
+        axis k n (part_offsets bands.now.layout.now axis offset) out.old.items out.new.items) }
     ensures room { vec_capacity out.old ≤ vec_capacity out.new }
 {
     let lengths = bands.layout.shape.as_slice();
@@ -136,19 +132,13 @@ fn send_block<W: Write>(
 ) -> Result<(), WriteFault>
     requires axis { axis < bands.now.small }
     requires small { bands.now.small ≤ length bands.now.layout.now.shape }
-    requires widths { AreWidths (leaves_of bands.now.items.descr.now) bands.now.items.widths.now }
-    requires part { IsPart bands.now.layout.now axis offset (length bands.now.items.block.now)
-        (item_size bands.now.items.descr.now) }
+    requires items { AreItemsAt bands.now.items bands.now.layout.now axis offset }
     ensures ok { OnOk result
-        (Sends (W.contents writer.old) (W.contents writer.new) out.new.items (out.old.items
-        ++ block_text axis (drop axis bands.now.layout.now.shape)
-        (map (shown bands.now.items.descr.now bands.now.items.widths.now bands.now.items.block.now)
-        (part_offsets bands.now.layout.now axis offset)))) }
+        (Sends (W.contents writer.old) (W.contents writer.new) out.new.items
+        (out.old.items ++ part_text bands.now.items bands.now.layout.now axis offset)) }
     ensures err { OnErr result
-        (SendsPart (W.contents writer.old) (W.contents writer.new) (out.old.items
-        ++ block_text axis (drop axis bands.now.layout.now.shape)
-        (map (shown bands.now.items.descr.now bands.now.items.widths.now bands.now.items.block.now)
-        (part_offsets bands.now.layout.now axis offset)))) }
+        (SendsPart (W.contents writer.old) (W.contents writer.new)
+        (out.old.items ++ part_text bands.now.items bands.now.layout.now axis offset)) }
     ensures room { vec_capacity out.old ≤ vec_capacity out.new }
 {
     let lengths = bands.layout.shape.as_slice();

@@ -1,14 +1,12 @@
 //! Spaces, separators, and texts padded to a width.
-ghost use Rattle.std.specs.Prelude.{◌≡◌, ◌+◌, ◌≤◌, ◌++◌, codes, length, drop, slice_range, replicate, vec_capacity, OnOk};
-ghost use Rattle.array_print.specs.Clauses.{StartsWith, separator, right_justified, record_end, lead, repeated};
+ghost use Rattle.std.specs.Prelude.{◌≤◌, ◌++◌, codes, length, drop, slice_range, replicate};
+ghost use Rattle.array_print.specs.Clauses.{Pushes, separator, right_justified, record_end, lead, repeated};
 
 use std::alloc::AllocError;
 
 /// Appends `n` copies of a byte. If memory runs out, some may be past the old end.
 fn push_repeated(out: &mut Vec<u8>, byte: u8, n: usize) -> Result<(), AllocError>
-    ensures ok { OnOk result (out.new.items ≡ out.old.items ++ replicate n byte) }
-    ensures kept { StartsWith out.new.items out.old.items }
-    ensures room { vec_capacity out.old ≤ vec_capacity out.new }
+    ensures { Pushes (replicate n byte) result out.old out.new }
 {
     for _i in 0..n {
         out.push(byte)?;
@@ -25,9 +23,7 @@ pub fn push_lead(
     inner: usize,
 ) -> Result<(), AllocError>
     requires { brackets ≤ 64 }
-    ensures ok { OnOk result (out.new.items ≡ out.old.items ++ lead k (separator brackets inner)) }
-    ensures kept { StartsWith out.new.items out.old.items }
-    ensures room { vec_capacity out.old ≤ vec_capacity out.new }
+    ensures { Pushes (lead k (separator brackets inner)) result out.old out.new }
 {
     if k == 0 {
         return Ok(());
@@ -38,9 +34,7 @@ pub fn push_lead(
 /// Appends what comes between two blocks of an axis that has `inner` axes inside it.
 fn push_separator(out: &mut Vec<u8>, brackets: usize, inner: usize) -> Result<(), AllocError>
     requires { brackets ≤ 64 }
-    ensures ok { OnOk result (out.new.items ≡ out.old.items ++ separator brackets inner) }
-    ensures kept { StartsWith out.new.items out.old.items }
-    ensures room { vec_capacity out.old ≤ vec_capacity out.new }
+    ensures { Pushes (separator brackets inner) result out.old out.new }
 {
     if inner == 0 {
         return push_repeated(out, b' ', 1);
@@ -57,10 +51,7 @@ const COPIED: usize = 1024;
 fn push_within(out: &mut Vec<u8>, from: usize, to: usize) -> Result<(), AllocError>
     requires order { from ≤ to }
     requires inside { to ≤ length out.old.items }
-    ensures ok { OnOk result
-        (out.new.items ≡ out.old.items ++ slice_range out.old.items from to) }
-    ensures kept { StartsWith out.new.items out.old.items }
-    ensures room { vec_capacity out.old ≤ vec_capacity out.new }
+    ensures { Pushes (slice_range out.old.items from to) result out.old out.new }
 {
     let mut done = from;
     while to - done >= COPIED {
@@ -84,10 +75,8 @@ pub fn push_again(
 ) -> Result<(), AllocError>
     requires start { start ≤ length out.old.items }
     requires brackets { brackets ≤ 64 }
-    ensures ok { OnOk result (out.new.items
-        ≡ out.old.items ++ repeated (separator brackets inner ++ drop start out.old.items) times) }
-    ensures kept { StartsWith out.new.items out.old.items }
-    ensures room { vec_capacity out.old ≤ vec_capacity out.new }
+    ensures { Pushes (repeated (separator brackets inner ++ drop start out.old.items) times)
+        result out.old out.new }
 {
     if times == 0 {
         return Ok(());
@@ -105,9 +94,7 @@ pub fn push_again(
 
 /// Appends a text, padded on the left to a width.
 pub fn push_padded(out: &mut Vec<u8>, text: &str, width: usize) -> Result<(), AllocError>
-    ensures ok { OnOk result (out.new.items ≡ out.old.items ++ right_justified width text.now) }
-    ensures kept { StartsWith out.new.items out.old.items }
-    ensures room { vec_capacity out.old ≤ vec_capacity out.new }
+    ensures { Pushes (right_justified width text.now) result out.old out.new }
 {
     let blanks = width.saturating_sub(text.len());
     push_repeated(out, b' ', blanks)?;
@@ -116,9 +103,7 @@ pub fn push_padded(out: &mut Vec<u8>, text: &str, width: usize) -> Result<(), Al
 
 /// Appends what comes before value `k` of a record: nothing before the first.
 pub fn push_comma(out: &mut Vec<u8>, k: usize) -> Result<(), AllocError>
-    ensures ok { OnOk result (out.new.items ≡ out.old.items ++ lead k (codes ", ")) }
-    ensures kept { StartsWith out.new.items out.old.items }
-    ensures room { vec_capacity out.old ≤ vec_capacity out.new }
+    ensures { Pushes (lead k (codes ", ")) result out.old out.new }
 {
     if k == 0 {
         return Ok(());
@@ -128,9 +113,7 @@ pub fn push_comma(out: &mut Vec<u8>, k: usize) -> Result<(), AllocError>
 
 /// Appends what follows the values of a record that has `values` of them.
 pub fn push_record_end(out: &mut Vec<u8>, values: usize) -> Result<(), AllocError>
-    ensures ok { OnOk result (out.new.items ≡ out.old.items ++ record_end values) }
-    ensures kept { StartsWith out.new.items out.old.items }
-    ensures room { vec_capacity out.old ≤ vec_capacity out.new }
+    ensures { Pushes (record_end values) result out.old out.new }
 {
     if values == 1 {
         return out.extend_from_slice(b",)");

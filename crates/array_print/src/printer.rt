@@ -1,9 +1,10 @@
 //! The text of an array: items in nested brackets, each value padded to the width of its leaf.
-ghost use Rattle.array_print.specs.Printed.{array_text, block_text, field_texts, in_parentheses, items_from, structure_text};
-ghost use Rattle.std.specs.Prelude.{All, IfOk, IsTrue, OnErr, OnOk, [], codes, drop, get_or, length, map, pos, slice_index_or, vec_capacity, ◌*ℤ◌, ◌++◌, ◌+ℤ◌, ◌+◌, ◌<◌, ◌^◌, ◌↔◌, ◌≡◌, ◌≤ℤ◌, ◌≤◌};
-ghost use Rattle.array_print.specs.Words.{item_size, leaf_count, leaves_of, listed, max_bytes, max_items, offsets, StartsWith};
-ghost use Rattle.array_print.specs.inside.Parts.{IsPart, part_offsets};
-ghost use Rattle.array_print.specs.inside.Shown.{AreWidths, shown, texts_at};
+ghost use Rattle.array_print.specs.Printed.{array_text, field_texts, in_parentheses, items_from, structure_text};
+ghost use Rattle.std.specs.Prelude.{All, IfOk, IsTrue, OnErr, OnOk, [], drop, get_or, length, pos, slice_index_or, vec_capacity, ◌*ℤ◌, ◌++◌, ◌+ℤ◌, ◌+◌, ◌<◌, ◌^◌, ◌↔◌, ◌≡◌, ◌≤◌};
+ghost use Rattle.array_print.specs.Words.{item_size, leaf_count, leaves_of, listed, max_items, offsets};
+ghost use Rattle.array_print.specs.inside.ItemTexts.{AreItemsAt, IsItemAt, part_text, text_at, value_texts};
+ghost use Rattle.array_print.specs.inside.Parts.{LeadsOn};
+ghost use Rattle.array_print.specs.inside.Pushed.{Pushes};
 
 use crate::padding::{push_again, push_comma, push_lead, push_record_end};
 use crate::values::push_value;
@@ -30,13 +31,8 @@ fn push_leaf(
 ) -> Result<(), AllocError>
     requires leaf { k < length (leaves_of items.now.descr.now) }
     requires few { k ≤ 2048 }
-    requires widths { AreWidths (leaves_of items.now.descr.now) items.now.widths.now }
-    requires inside { offset + item_size items.now.descr.now ≤ length items.now.block.now }
-    ensures ok { OnOk result (out.new.items ≡ out.old.items
-        ++ get_or (texts_at items.now.descr.now items.now.widths.now items.now.block.now offset)
-        k []) }
-    ensures kept { StartsWith out.new.items out.old.items }
-    ensures room { vec_capacity out.old ≤ vec_capacity out.new }
+    requires item { IsItemAt items.now offset }
+    ensures { Pushes (get_or (value_texts items.now offset) k []) result out.old out.new }
 {
     let (scalar, at) = items.descr.leaf_at(k);
     let place = offset + at;
@@ -56,14 +52,10 @@ fn push_field(
 ) -> Result<usize, AllocError>
     requires leaves { k + length (leaves_of descr.now) ≤ length (leaves_of items.now.descr.now) }
     requires few { length (leaves_of items.now.descr.now) ≤ 2048 }
-    requires widths { AreWidths (leaves_of items.now.descr.now) items.now.widths.now }
-    requires inside { offset + item_size items.now.descr.now ≤ length items.now.block.now }
-    ensures ok { OnOk result (out.new.items ≡ out.old.items
-        ++ structure_text descr.now (drop k
-        (texts_at items.now.descr.now items.now.widths.now items.now.block.now offset))) }
+    requires item { IsItemAt items.now offset }
+    ensures text { Pushes (structure_text descr.now (drop k (value_texts items.now offset)))
+        result out.old out.new }
     ensures next { IfOk result (λ next. next ≡ k + length (leaves_of descr.now)) }
-    ensures kept { StartsWith out.new.items out.old.items }
-    ensures room { vec_capacity out.old ≤ vec_capacity out.new }
 {
     match descr {
         Descr::Scalar(_) => {
@@ -86,14 +78,11 @@ fn push_record(
 ) -> Result<usize, AllocError>
     requires leaves { k + leaf_count (listed fields.now) ≤ length (leaves_of items.now.descr.now) }
     requires few { length (leaves_of items.now.descr.now) ≤ 2048 }
-    requires widths { AreWidths (leaves_of items.now.descr.now) items.now.widths.now }
-    requires inside { offset + item_size items.now.descr.now ≤ length items.now.block.now }
-    ensures ok { OnOk result (out.new.items ≡ out.old.items
-        ++ in_parentheses (field_texts (listed fields.now)
-        (drop k (texts_at items.now.descr.now items.now.widths.now items.now.block.now offset)))) }
+    requires item { IsItemAt items.now offset }
+    ensures text { Pushes
+        (in_parentheses (field_texts (listed fields.now) (drop k (value_texts items.now offset))))
+        result out.old out.new }
     ensures next { IfOk result (λ next. next ≡ k + leaf_count (listed fields.now)) }
-    ensures kept { StartsWith out.new.items out.old.items }
-    ensures room { vec_capacity out.old ≤ vec_capacity out.new }
 {
     let mut leaf = k;
     out.push(b'(')?;
@@ -107,12 +96,8 @@ fn push_record(
 
 /// Appends the text of one item.
 fn push_item(out: &mut Vec<u8>, items: &Items<'_>, offset: usize) -> Result<(), AllocError>
-    requires widths { AreWidths (leaves_of items.now.descr.now) items.now.widths.now }
-    requires inside { offset + item_size items.now.descr.now ≤ length items.now.block.now }
-    ensures ok { OnOk result (out.new.items ≡ out.old.items
-        ++ shown items.now.descr.now items.now.widths.now items.now.block.now offset) }
-    ensures kept { StartsWith out.new.items out.old.items }
-    ensures room { vec_capacity out.old ≤ vec_capacity out.new }
+    requires { IsItemAt items.now offset }
+    ensures { Pushes (text_at items.now offset) result out.old out.new }
 {
     let _leaves = items.descr.leaf_count();
     push_field(out, items, items.descr, 0, offset)?;
@@ -129,15 +114,8 @@ pub fn push_block(
     axis: usize,
     offset: usize,
 ) -> Result<(), AllocError>
-    requires widths { AreWidths (leaves_of items.now.descr.now) items.now.widths.now }
-    requires part { IsPart layout.now axis offset (length items.now.block.now)
-        (item_size items.now.descr.now) }
-    ensures ok { OnOk result (out.new.items ≡ out.old.items
-        ++ block_text axis (drop axis layout.now.shape)
-        (map (shown items.now.descr.now items.now.widths.now items.now.block.now)
-        (part_offsets layout.now axis offset))) }
-    ensures kept { StartsWith out.new.items out.old.items }
-    ensures room { vec_capacity out.old ≤ vec_capacity out.new }
+    requires { AreItemsAt items.now layout.now axis offset }
+    ensures { Pushes (part_text items.now layout.now axis offset) result out.old out.new }
 {
     let lengths = layout.shape.as_slice();
     if axis == lengths.len() {
@@ -210,11 +188,8 @@ pub fn repeats(strides: &[isize], axis: usize) -> bool
 /// The offset `steps` steps further along an axis.
 pub fn step_along(from: usize, strides: &[isize], axis: usize, steps: usize) -> usize
     requires axis { axis < length strides.now }
-    requires start { from ≤ max_bytes }
     requires steps { steps ≤ max_items }
-    requires low { pos 0 ≤ℤ (pos from +ℤ slice_index_or strides.now axis (pos 0) *ℤ pos steps) }
-    requires high { (pos from +ℤ slice_index_or strides.now axis (pos 0) *ℤ pos steps) ≤ℤ
-        pos max_bytes }
+    requires leads { LeadsOn strides.now axis from steps }
     ensures { pos result ≡ pos from +ℤ slice_index_or strides.now axis (pos 0) *ℤ pos steps }
 {
     (from as isize + strides[axis] * steps as isize) as usize

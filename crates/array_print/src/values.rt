@@ -1,6 +1,6 @@
 //! The text of a single value.
-ghost use Rattle.std.specs.Prelude.{◌≡◌, ◌++◌, ◌≤◌, ◌<◌, length, flat_map, vec_capacity, OnOk};
-ghost use Rattle.array_print.specs.Clauses.{StartsWith, size, decode, without_nuls, hex_digit, escaped, byte_string_text, leaf_text, right_justified, IsWidth};
+ghost use Rattle.std.specs.Prelude.{◌≡◌, ◌<◌, length};
+ghost use Rattle.array_print.specs.Clauses.{Pushes, size, decode, without_nuls, hex_digit, escaped, byte_string_text, leaf_text, right_justified, IsWidth};
 
 use crate::padding::push_padded;
 use elem_descr::{Scalar, num_read};
@@ -17,26 +17,12 @@ fn hex_digit(digit: u8) -> u8
 
 /// Appends a byte of a byte string: as itself, or escaped.
 fn push_escaped(out: &mut Vec<u8>, byte: u8) -> Result<(), AllocError>
-    ensures ok { OnOk result (out.new.items ≡ out.old.items ++ escaped byte) }
-    ensures kept { StartsWith out.new.items out.old.items }
-    ensures room { vec_capacity out.old ≤ vec_capacity out.new }
+    ensures { Pushes (escaped byte) result out.old out.new }
 {
     if matches!(byte, b' '..=b'~') && !b"'\\".contains(&byte) {
         return out.extend_from_slice(&[byte]);
     }
     out.extend_from_slice(&[b'\\', b'x', hex_digit(byte / 16), hex_digit(byte % 16)])
-}
-
-/// Appends the bytes of a byte string.
-fn push_all_escaped(out: &mut Vec<u8>, bytes: &[u8]) -> Result<(), AllocError>
-    ensures ok { OnOk result (out.new.items ≡ out.old.items ++ flat_map escaped bytes.now) }
-    ensures kept { StartsWith out.new.items out.old.items }
-    ensures room { vec_capacity out.old ≤ vec_capacity out.new }
-{
-    for byte in bytes {
-        push_escaped(out, *byte)?;
-    }
-    Ok(())
 }
 
 /// A byte string without the NULs at its end.
@@ -52,13 +38,12 @@ fn without_nuls(bytes: &[u8]) -> &[u8]
 
 /// Appends the text of a byte string, without the NULs at its end.
 fn push_byte_string(out: &mut Vec<u8>, bytes: &[u8]) -> Result<(), AllocError>
-    ensures ok { OnOk result (out.new.items ≡ out.old.items
-        ++ byte_string_text (without_nuls bytes.now)) }
-    ensures kept { StartsWith out.new.items out.old.items }
-    ensures room { vec_capacity out.old ≤ vec_capacity out.new }
+    ensures { Pushes (byte_string_text (without_nuls bytes.now)) result out.old out.new }
 {
     out.extend_from_slice(b"b'")?;
-    push_all_escaped(out, without_nuls(bytes))?;
+    for byte in without_nuls(bytes) {
+        push_escaped(out, *byte)?;
+    }
     out.extend_from_slice(b"'")
 }
 
@@ -71,10 +56,8 @@ pub fn push_value(
 ) -> Result<(), AllocError>
     requires width { IsWidth scalar.now width }
     requires whole { length bytes.now ≡ size scalar.now }
-    ensures ok { OnOk result (out.new.items ≡ out.old.items
-        ++ right_justified width (leaf_text scalar.now (decode scalar.now bytes.now))) }
-    ensures kept { StartsWith out.new.items out.old.items }
-    ensures room { vec_capacity out.old ≤ vec_capacity out.new }
+    ensures { Pushes (right_justified width (leaf_text scalar.now (decode scalar.now bytes.now)))
+        result out.old out.new }
 {
     match scalar {
         Scalar::Bool => {

@@ -12,17 +12,13 @@ use std::alloc::{AllocError, Global};
 /// The width of the texts of bools in an array with axes.
 const BOOL_WIDTH: usize = 5;
 
-/// The width of a leaf's texts before any is known.
-fn least_width(descr: &Descr, k: usize) -> usize
-    requires leaf { k < length (leaves_of descr.now) }
-    ensures { result ≡ get_or (leaf_widths (leaves_of descr.now) []) k 0 }
+/// The width of a scalar's texts before any is known.
+fn least_width(scalar: &Scalar) -> usize
+    ensures { result ≡ leaf_width scalar.now [] }
 {
-    let (scalar, _at) = descr.leaf_at(k);
     match scalar {
         Scalar::Bool => BOOL_WIDTH,
-        Scalar::Byte { .. } => 0,
-        Scalar::Int { .. } => 0,
-        Scalar::Bytes(_) => 0,
+        Scalar::Byte { .. } | Scalar::Int { .. } | Scalar::Bytes(_) => 0,
     }
 }
 
@@ -32,7 +28,8 @@ fn least_widths(alloc: Global, descr: &Descr) -> Result<SmallVec<usize, 4>, Allo
 {
     let mut widths = SmallVec::new(alloc);
     for k in 0..descr.leaf_count() {
-        widths.push(least_width(descr, k))?;
+        let (scalar, _at) = descr.leaf_at(k);
+        widths.push(least_width(&scalar))?;
     }
     Ok(widths)
 }

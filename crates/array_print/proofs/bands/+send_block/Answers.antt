@@ -1,8 +1,8 @@
-use Rattle.std.proofs.Common.{◌≡◌, ◌+◌, ◌<◌, pos, ◌+ℤ◌, ◌*ℤ◌, ◌≤ℤ◌, get_or, length, sym, ap, subst, ◌∙◌, arith}
-use Rattle.array_print.proofs.Words.{err_from_is_err_and, max_bytes, sends-none, sends-then}
+use Rattle.std.proofs.Common.{◌≡◌, ◌+◌, ◌<◌, pos, ◌+ℤ◌, ◌*ℤ◌, get_or, length, ap, ◌∙◌, arith}
+use Rattle.array_print.proofs.Words.{err_from_is_err_and, sends-none, sends-then}
 use Rattle.array_print.proofs.PrintLaws.{sends-grown}
 use Rattle.array_print.proofs.BandLaws.{cut, one-more, ended}
-use Rattle.array_print.proofs.PartLaws.{part-step, part-start, part-inner}
+use Rattle.array_print.proofs.PartLaws.{part-leads, part-inner}
 use Rattle.array_print.proofs.bands.+send_block.Goals as goal
 
 pub returns-in_err-extend_from_slice-clause-err : goal.returns-in_err-extend_from_slice-clause-err
@@ -38,25 +38,12 @@ returns-in_err-push_lead-clause-err g t c =
     let p = err_from_is_err_and c.from_residual-in_err-push_lead.result c.from_residual-in_err-push_lead.ensures.1 in
     rw p.1 (cut _ c.args.bands.now.layout.now c.args.axis c.args.offset _ _ _ _ c.requires.axis c.requires.small c.loop-k.k _ c.loop-k.invariant.within c.loop-k.invariant.sent)
 
-pub step_along-next-requires-clause-start : goal.step_along-next-requires-clause-start
-step_along-next-requires-clause-start g t c =
-    let l = c.args.bands.now.layout.now in
-    let below : c.args.axis < length l.shape = omega (arith, c.requires.axis, c.requires.small) in
-    part-start l c.args.axis c.args.offset _ _ below c.requires.part
-
-pub step_along-next-requires-clause-low : goal.step_along-next-requires-clause-low
-step_along-next-requires-clause-low g t c =
+pub step_along-next-requires-clause-leads : goal.step_along-next-requires-clause-leads
+step_along-next-requires-clause-leads g t c =
     let l = c.args.bands.now.layout.now in
     let below : c.args.axis < length l.shape = omega (arith, c.requires.axis, c.requires.small) in
     let low : c.loop-k.k < get_or l.shape c.args.axis 0 = omega (arith, c.loop-k-test.true, ap (λ s. get_or s c.args.axis 0) c.as_slice-lengths.ensures.value) in
-    subst (λ strides. pos 0 ≤ℤ (pos c.args.offset +ℤ get_or strides c.args.axis (pos 0) *ℤ pos c.loop-k.k)) (sym c.as_slice-strides.ensures) (part-step l c.args.axis c.args.offset _ _ below c.requires.part c.loop-k.k low).0
-
-pub step_along-next-requires-clause-high : goal.step_along-next-requires-clause-high
-step_along-next-requires-clause-high g t c =
-    let l = c.args.bands.now.layout.now in
-    let below : c.args.axis < length l.shape = omega (arith, c.requires.axis, c.requires.small) in
-    let low : c.loop-k.k < get_or l.shape c.args.axis 0 = omega (arith, c.loop-k-test.true, ap (λ s. get_or s c.args.axis 0) c.as_slice-lengths.ensures.value) in
-    subst (λ strides. (pos c.args.offset +ℤ get_or strides c.args.axis (pos 0) *ℤ pos c.loop-k.k) ≤ℤ pos max_bytes) (sym c.as_slice-strides.ensures) (part-step l c.args.axis c.args.offset _ _ below c.requires.part c.loop-k.k low).1
+    part-leads l c.args.axis c.args.offset _ _ below c.requires.items.part c.loop-k.k _ low c.as_slice-strides.ensures
 
 pub send_block-requires : goal.send_block-requires
 send_block-requires g t c κs lives =
@@ -64,14 +51,14 @@ send_block-requires g t c κs lives =
     let below : c.args.axis < length l.shape = omega (arith, c.requires.axis, c.requires.small) in
     let low : c.loop-k.k < get_or l.shape c.args.axis 0 = omega (arith, c.loop-k-test.true, ap (λ s. get_or s c.args.axis 0) c.as_slice-lengths.ensures.value) in
     let is : pos c.step_along-next.result ≡ pos c.args.offset +ℤ get_or l.strides c.args.axis (pos 0) *ℤ pos c.loop-k.k = c.step_along-next.ensures ∙ ap (λ s. pos c.args.offset +ℤ get_or s c.args.axis (pos 0) *ℤ pos c.loop-k.k) c.as_slice-strides.ensures in
-    (omega (arith, c.decreases, below), (lives, (omega (arith, c.requires.axis, c.if-axis-bands.false), (c.requires.small, (c.requires.widths, part-inner l c.args.axis c.args.offset _ _ below c.requires.part c.loop-k.k c.step_along-next.result low is)))))
+    (omega (arith, c.decreases, below), (lives, (omega (arith, c.requires.axis, c.if-axis-bands.false), (c.requires.small, record { widths = c.requires.items.widths; part = part-inner l c.args.axis c.args.offset _ _ below c.requires.items.part c.loop-k.k c.step_along-next.result low is }))))
 
 pub returns-in_err-send_block-clause-err : goal.returns-in_err-send_block-clause-err
 returns-in_err-send_block-clause-err g t c =
     let l = c.args.bands.now.layout.now in
     let low : c.loop-k.k < get_or l.shape c.args.axis 0 = omega (arith, c.loop-k-test.true, ap (λ s. get_or s c.args.axis 0) c.as_slice-lengths.ensures.value) in
     let is : pos c.step_along-next.result ≡ pos c.args.offset +ℤ get_or l.strides c.args.axis (pos 0) *ℤ pos c.loop-k.k = c.step_along-next.ensures ∙ ap (λ s. pos c.args.offset +ℤ get_or s c.args.axis (pos 0) *ℤ pos c.loop-k.k) c.as_slice-strides.ensures in
-    let more = one-more _ l c.args.axis c.args.offset _ _ _ _ c.requires.axis c.requires.small c.loop-k.k c.step_along-next.result _ _ _ _ _ low c.requires.part is c.as_slice-lengths.ensures.value c.loop-k.invariant.sent c.in_ok-push_lead.ensures.ok in
+    let more = one-more _ l c.args.axis c.args.offset _ _ _ _ c.requires.axis c.requires.small c.loop-k.k c.step_along-next.result _ _ _ _ _ low c.requires.items.part is c.as_slice-lengths.ensures.value c.loop-k.invariant.sent c.in_ok-push_lead.ensures.ok in
     let p = err_from_is_err_and c.from_residual-in_err-send_block.result c.from_residual-in_err-send_block.ensures.1 in
     let part = c.in_err-send_block.ensures.err in
     rw p.1 (cut _ c.args.bands.now.layout.now c.args.axis c.args.offset _ _ _ _ c.requires.axis c.requires.small (c.loop-k.k + 1) _ (omega (arith, low)) (sends-then _ _ _ _ _ _ more part.1))
@@ -81,7 +68,7 @@ loop-k-preserved g t c =
     let l = c.args.bands.now.layout.now in
     let low : c.loop-k.k < get_or l.shape c.args.axis 0 = omega (arith, c.loop-k-test.true, ap (λ s. get_or s c.args.axis 0) c.as_slice-lengths.ensures.value) in
     let is : pos c.step_along-next.result ≡ pos c.args.offset +ℤ get_or l.strides c.args.axis (pos 0) *ℤ pos c.loop-k.k = c.step_along-next.ensures ∙ ap (λ s. pos c.args.offset +ℤ get_or s c.args.axis (pos 0) *ℤ pos c.loop-k.k) c.as_slice-strides.ensures in
-    let more = one-more _ l c.args.axis c.args.offset _ _ _ _ c.requires.axis c.requires.small c.loop-k.k c.step_along-next.result _ _ _ _ _ low c.requires.part is c.as_slice-lengths.ensures.value c.loop-k.invariant.sent c.in_ok-push_lead.ensures.ok in
+    let more = one-more _ l c.args.axis c.args.offset _ _ _ _ c.requires.axis c.requires.small c.loop-k.k c.step_along-next.result _ _ _ _ _ low c.requires.items.part is c.as_slice-lengths.ensures.value c.loop-k.invariant.sent c.in_ok-push_lead.ensures.ok in
     record {
       sent = sends-then _ _ _ _ _ _ more c.in_ok-send_block.ensures.ok;
       within = omega (arith, low);

@@ -1,24 +1,18 @@
-use Rattle.std.proofs.Common.{◌≡◌, ◌+◌, ◌-◌, ◌++◌, pos, ◌+ℤ◌, ◌*ℤ◌, ◌≤ℤ◌, get_or, length, map, drop, sym, ap, subst, ◌∙◌, append_assoc, arith}
-use Rattle.array_print.proofs.Words.{max_bytes, block_text, separator, part_offsets, opened, shown, lead, repeated}
+use Rattle.std.proofs.Common.{◌≡◌, ◌+◌, ◌-◌, ◌++◌, pos, ◌+ℤ◌, ◌*ℤ◌, get_or, length, map, drop, sym, ap, ◌∙◌, append_assoc, arith}
+use Rattle.array_print.proofs.Words.{block_text, separator, part_offsets, opened, shown, lead, repeated}
 use Rattle.array_print.proofs.PrintLaws.{opened-next, opened-run, made-again}
-use Rattle.array_print.proofs.PartLaws.{stays, part-step, part-start, part-inner, part-block}
+use Rattle.array_print.proofs.PartLaws.{stays, part-leads, part-inner, part-block}
 use Rattle.array_print.proofs.bands.push_run.Goals as goal
 
-pub step_along-requires-clause-start : goal.step_along-requires-clause-start
-step_along-requires-clause-start c = part-start c.args.bands.now.layout.now c.args.axis c.args.offset _ _ c.requires.axis c.requires.part
+pub step_along-requires-clause-leads : goal.step_along-requires-clause-leads
+step_along-requires-clause-leads c =
+    part-leads c.args.bands.now.layout.now c.args.axis c.args.offset _ _ c.requires.axis c.requires.items.part c.args.k _ c.requires.block c.as_slice-strides.ensures
 
-pub step_along-requires-clause-low : goal.step_along-requires-clause-low
-step_along-requires-clause-low c =
-    subst (λ strides. pos 0 ≤ℤ (pos c.args.offset +ℤ get_or strides c.args.axis (pos 0) *ℤ pos c.args.k)) (sym c.as_slice-strides.ensures) (part-step c.args.bands.now.layout.now c.args.axis c.args.offset _ _ c.requires.axis c.requires.part c.args.k c.requires.block).0
-
-pub step_along-requires-clause-high : goal.step_along-requires-clause-high
-step_along-requires-clause-high c =
-    subst (λ strides. (pos c.args.offset +ℤ get_or strides c.args.axis (pos 0) *ℤ pos c.args.k) ≤ℤ pos max_bytes) (sym c.as_slice-strides.ensures) (part-step c.args.bands.now.layout.now c.args.axis c.args.offset _ _ c.requires.axis c.requires.part c.args.k c.requires.block).1
-
-pub push_block-requires-clause-part : goal.push_block-requires-clause-part
-push_block-requires-clause-part c =
+pub push_block-requires : goal.push_block-requires
+push_block-requires c =
     let l = c.args.bands.now.layout.now in
-    part-inner l c.args.axis c.args.offset _ _ c.requires.axis c.requires.part c.args.k c.step_along.result c.requires.block (c.step_along.ensures ∙ ap (λ s. pos c.args.offset +ℤ get_or s c.args.axis (pos 0) *ℤ pos c.args.k) c.as_slice-strides.ensures)
+    let inner = part-inner l c.args.axis c.args.offset _ _ c.requires.axis c.requires.items.part c.args.k c.step_along.result c.requires.block (c.step_along.ensures ∙ ap (λ s. pos c.args.offset +ℤ get_or s c.args.axis (pos 0) *ℤ pos c.args.k) c.as_slice-strides.ensures) in
+    record { widths = c.requires.items.widths; part = inner }
 
 pub returns-then-repeats-clause-grows : goal.returns-then-repeats-clause-grows
 returns-then-repeats-clause-grows c =
@@ -43,7 +37,7 @@ returns-then-repeats-clause-grows c =
           c.in_ok-push_block.ensures.ok
           (c.in_ok-push_again.ensures.ok ∙ ap (λ m. c.push_block.new.out.items ++ repeated (separator c.args.axis (m - c.args.axis - 1) ++ drop c.len-first.result c.push_block.new.out.items) copies) lens),
       opened-run f l.shape c.args.axis c.args.k copies (part_offsets l c.args.axis start) one
-          (λ j low high. ap (λ os. text (map f os)) (part-block l c.args.axis start _ _ c.requires.axis c.requires.part j c.step_along.result (omega (arith, low, c.requires.block, c.min-copies.ensures, length-is)) (is ∙ sym (stays s start c.args.k none) ∙ stays s start j none))),
+          (λ j low high. ap (λ os. text (map f os)) (part-block l c.args.axis start _ _ c.requires.axis c.requires.items.part j c.step_along.result (omega (arith, low, c.requires.block, c.min-copies.ensures, length-is)) (is ∙ sym (stays s start c.args.k none) ∙ stays s start j none))),
     )
 
 pub returns-clause-grows : goal.returns-clause-grows
@@ -61,5 +55,5 @@ returns-clause-grows c =
       led ++ one,
       c.in_ok-push_block.ensures.ok ∙ ap (λ o. o ++ one) leads ∙ append_assoc c.args.out.now.items led one,
       opened-next f l.shape c.args.axis c.args.k (part_offsets l c.args.axis start)
-          ∙ ap (λ os. opened f l.shape c.args.axis c.args.k (part_offsets l c.args.axis start) ++ (led ++ text (map f os))) (part-block l c.args.axis start _ _ c.requires.axis c.requires.part c.args.k c.step_along.result c.requires.block is),
+          ∙ ap (λ os. opened f l.shape c.args.axis c.args.k (part_offsets l c.args.axis start) ++ (led ++ text (map f os))) (part-block l c.args.axis start _ _ c.requires.axis c.requires.items.part c.args.k c.step_along.result c.requires.block is),
     )

@@ -1,4 +1,4 @@
-use Rattle.std.proofs.Common.{◌++◌, drop, ap, ◌∙◌, sym, add-one, append_assoc, arith}
+use Rattle.std.proofs.Common.{◌++◌, drop, ap, ◌∙◌, sym, add-one, append_assoc, arith, rules}
 use Rattle.array_print.proofs.Words.{separator, repeated}
 use Rattle.array_print.proofs.PrintLaws.{StartsWith-along, first-copy}
 use Rattle.array_print.proofs.padding.push_again.Goals as goal
@@ -25,5 +25,9 @@ loop-i-preserved c =
       room = omega arith;
     }
 
-pub returns-in_err-push_within-2-clause-kept : goal.returns-in_err-push_within-2-clause-kept
-returns-in_err-push_within-2-clause-kept c = StartsWith-along _ _ _ _ c.loop-i.invariant.pushed c.push_within-in-loop-i.ensures.kept
+pub returns-in_err-push_within-2 : goal.returns-in_err-push_within-2
+returns-in_err-push_within-2 c = record {
+  ok = search rules;
+  kept = StartsWith-along _ _ _ _ c.loop-i.invariant.pushed c.push_within-in-loop-i.ensures.kept;
+  room = omega arith;
+}

@@ -1,5 +1,5 @@
 use Rattle.std.proofs.Common.{◌+◌, ◌≤◌, ◌++◌, slice_range, ap, ◌∙◌, append_assoc, arith}
-use Rattle.array_print.proofs.PrintLaws.{slice-front, slices-join}
+use Rattle.array_print.proofs.PrintLaws.{StartsWith-pushed, slice-front, slices-join}
 use Rattle.array_print.proofs.padding.push_within.Goals as goal
 
 pub loop-done-preserved : goal.loop-done-preserved
@@ -21,15 +21,16 @@ loop-done-preserved c =
       room = omega (arith, so_far.room, c.in_ok-extend_from_slice.ensures.capacity);
     }
 
-pub returns-clause-ok : goal.returns-clause-ok
-returns-clause-ok c =
+pub returns : goal.returns
+returns c =
     let old = c.args.out.now.items in
     let from = c.args.from in
     let done = c.loop-done.done in
     let to = c.args.to in
     let so_far = c.loop-done.invariant in
-    c.in_ok-extend_from_within.ensures.items
+    let all = c.in_ok-extend_from_within.ensures.items
     ∙ ap (λ l. l ++ slice_range l done to) so_far.pushed
     ∙ ap (λ l. (old ++ slice_range old from done) ++ l) (slice-front old (slice_range old from done) done to so_far.to c.requires.inside)
     ∙ append_assoc old (slice_range old from done) (slice_range old done to)
-    ∙ ap (λ l. old ++ l) (slices-join old from done to so_far.from so_far.to)
+    ∙ ap (λ l. old ++ l) (slices-join old from done to so_far.from so_far.to) in
+    record { ok = all; kept = StartsWith-pushed _ _ _ all; room = omega (arith, so_far.room, c.in_ok-extend_from_within.ensures.capacity) }

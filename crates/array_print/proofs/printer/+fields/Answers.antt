@@ -1,7 +1,7 @@
-use Rattle.std.proofs.Common.{◌≡◌, ◌+◌, ◌<◌, ◌++◌, ℕ, List, [], ◌∷◌, codes, get_or, length, take, drop, sym, ap, ◌∙◌, append_assoc, arith, take_all}
+use Rattle.std.proofs.Common.{◌≡◌, ◌+◌, ◌<◌, ◌++◌, ℕ, List, [], ◌∷◌, codes, get_or, length, take, drop, sym, ap, ◌∙◌, append_assoc, arith, rules, take_all}
 use Rattle.array_print.proofs.Words.{drop-drop, get_or_default, on_ok_weaker, IfOk-weaker, Descr, Field, Structure, total, fields_of, listed, leaf_count, leaves_of, weight, rest_at, weight-one, listed-fields_of, leaf_count-before, length-leaves_from, RecordDescr, join_texts, record_end, field_texts, structure_text, in_parentheses, first_text, lead, texts_at, StartsWith-trans}
 use Rattle.array_print.proofs.LeafLaws.{joined-take-more, field_texts-before, length-field_texts}
-use Rattle.array_print.proofs.PrintLaws.{StartsWith-along, regroup}
+use Rattle.array_print.proofs.PrintLaws.{StartsWith-along, StartsWith-pushed, regroup}
 use Rattle.array_print.proofs.printer.+fields.Goals as goal
 
 -- one more text is appended
@@ -47,14 +47,18 @@ push_field-push_record-requires t c =
     let one = ap weight c.in-Record.is in
     let leaves = ap leaf_count fields in
     let there = ap (λ d. length (leaves_of d)) c.in-Record.is in
-    (omega (arith, c.decreases, all, one), (omega (arith, leaves, there, length-leaves_from 0 c.in-Record.inner.fields, c.requires.leaves), (c.requires.few, (c.requires.widths, c.requires.inside))))
+    (omega (arith, c.decreases, all, one), (omega (arith, leaves, there, length-leaves_from 0 c.in-Record.inner.fields, c.requires.leaves), (c.requires.few, c.requires.item)))
 
-pub push_field-returns-in-Record-clause-ok : goal.push_field-returns-in-Record-clause-ok
-push_field-returns-in-Record-clause-ok t c =
+pub push_field-returns-in-Record-clause-text : goal.push_field-returns-in-Record-clause-text
+push_field-returns-in-Record-clause-text t c =
     let texts = drop c.args.k (texts_at c.args.items.now.descr.now c.args.items.now.widths.now c.args.items.now.block.now c.args.offset) in
-    on_ok_weaker c.push_record.result
-    (λ pushed. pushed ∙ ap (λ text. c.args.out.now.items ++ text) (field-text c.args.descr.now c.in-Record.inner c.fields.result.now texts c.in-Record.is c.fields.ensures.value))
-    c.push_record.ensures.ok
+    record {
+      ok = on_ok_weaker c.push_record.result
+          (λ pushed. pushed ∙ ap (λ text. c.args.out.now.items ++ text) (field-text c.args.descr.now c.in-Record.inner c.fields.result.now texts c.in-Record.is c.fields.ensures.value))
+          c.push_record.ensures.text.ok;
+      kept = c.push_record.ensures.text.kept;
+      room = c.push_record.ensures.text.room;
+    }
 
 pub push_field-returns-in-Record-clause-next : goal.push_field-returns-in-Record-clause-next
 push_field-returns-in-Record-clause-next t c =
@@ -63,17 +67,17 @@ push_field-returns-in-Record-clause-next t c =
     let there = ap (λ d. length (leaves_of d)) c.in-Record.is in
     IfOk-weaker c.push_record.result _ _ (λ next is. omega (arith, is, leaves, there, length-leaves_from 0 c.in-Record.inner.fields)) c.push_record.ensures.next
 
-pub push_record-returns-in_err-push_comma-clause-kept : goal.push_record-returns-in_err-push_comma-clause-kept
-push_record-returns-in_err-push_comma-clause-kept t c =
-    StartsWith-along _ _ _ _ c.loop-i.invariant.pushed c.push_comma.ensures.kept
+pub push_record-returns-in_err-push_comma-clause-text : goal.push_record-returns-in_err-push_comma-clause-text
+push_record-returns-in_err-push_comma-clause-text t c =
+    record { ok = search rules; kept = StartsWith-along _ _ _ _ c.loop-i.invariant.pushed c.push_comma.ensures.kept; room = omega arith }
 
-pub push_record-returns-in_err-leaf-clause-kept : goal.push_record-returns-in_err-leaf-clause-kept
-push_record-returns-in_err-leaf-clause-kept t c =
-    StartsWith-along _ _ _ _ c.loop-i.invariant.pushed (StartsWith-trans _ _ _ c.push_field.ensures.kept c.push_comma.ensures.kept)
+pub push_record-returns-in_err-leaf-clause-text : goal.push_record-returns-in_err-leaf-clause-text
+push_record-returns-in_err-leaf-clause-text t c =
+    record { ok = search rules; kept = StartsWith-along _ _ _ _ c.loop-i.invariant.pushed (StartsWith-trans _ _ _ c.push_field.ensures.text.kept c.push_comma.ensures.kept); room = omega arith }
 
-pub push_record-returns-in_err-push_record_end-clause-kept : goal.push_record-returns-in_err-push_record_end-clause-kept
-push_record-returns-in_err-push_record_end-clause-kept t c =
-    StartsWith-along _ _ _ _ c.loop-i.invariant.pushed c.push_record_end.ensures.kept
+pub push_record-returns-in_err-push_record_end-clause-text : goal.push_record-returns-in_err-push_record_end-clause-text
+push_record-returns-in_err-push_record_end-clause-text t c =
+    record { ok = search rules; kept = StartsWith-along _ _ _ _ c.loop-i.invariant.pushed c.push_record_end.ensures.kept; room = omega arith }
 
 -- the leaves of the remaining fields
 left : (fields : List Field) (field : Field) (i : ℕ) → i < length fields → field ≡ get_or fields i field → leaf_count (listed (drop i fields)) ≡ length (leaves_of field.descr) + leaf_count (listed (drop (i + 1) fields))
@@ -83,7 +87,7 @@ pub push_record-push_field-requires : goal.push_record-push_field-requires
 push_record-push_field-requires t c =
     let one = weight-one c.args.fields.now c.loop-i.i c.index-fields-i.result c.loop-i-test.true c.index-fields-i.is in
     let here = left c.args.fields.now c.index-fields-i.result c.loop-i.i c.loop-i-test.true c.index-fields-i.is in
-    (omega (arith, c.decreases, one), (omega (arith, here, c.loop-i.invariant.count, c.requires.leaves), (c.requires.few, (c.requires.widths, c.requires.inside))))
+    (omega (arith, c.decreases, one), (omega (arith, here, c.loop-i.invariant.count, c.requires.leaves), (c.requires.few, c.requires.item)))
 
 -- the text of the next field, and those after it
 unread-more : (fields : List Field) (field : Field) (i leaf : ℕ) (texts leaves : List (List ℕ)) → i < length fields → field ≡ get_or fields i field → drop i texts ≡ field_texts (listed (drop i fields)) (drop leaf leaves) → drop i texts ≡ structure_text field.descr (drop leaf leaves) ∷ field_texts (listed (drop (i + 1) fields)) (drop (leaf + length (leaves_of field.descr)) leaves)
@@ -108,15 +112,16 @@ push_record-loop-i-preserved t c =
     let parts = parted texts _ c.loop-i.i _ below (unread-more c.args.fields.now field c.loop-i.i c.loop-i.leaf texts leaves c.loop-i-test.true c.index-fields-i.is c.loop-i.invariant.unread) in
     let next = c.in_ok-leaf.ensures.next in
     record {
-      pushed = text-more texts c.loop-i.i c.args.out.now.items _ _ _ below c.loop-i.invariant.pushed c.in_ok-push_comma.ensures.ok (c.in_ok-leaf.ensures.ok ∙ ap (λ text. c.push_comma.new.out.items ++ text) (sym parts.0));
+      pushed = text-more texts c.loop-i.i c.args.out.now.items _ _ _ below c.loop-i.invariant.pushed c.in_ok-push_comma.ensures.ok (c.in_ok-leaf.ensures.text.ok ∙ ap (λ text. c.push_comma.new.out.items ++ text) (sym parts.0));
       unread = parts.1 ∙ ap (λ n. field_texts (listed (drop (c.loop-i.i + 1) c.args.fields.now)) (drop n leaves)) (sym next);
       count = omega (arith, here, next, c.loop-i.invariant.count);
       room = omega arith;
     }
 
-pub push_record-returns-clause-ok : goal.push_record-returns-clause-ok
-push_record-returns-clause-ok t c =
+pub push_record-returns-clause-text : goal.push_record-returns-clause-text
+push_record-returns-clause-text t c =
     let leaves = texts_at c.args.items.now.descr.now c.args.items.now.widths.now c.args.items.now.block.now c.args.offset in
     let texts = field_texts (listed c.args.fields.now) (drop c.args.k leaves) in
     let many = length-field_texts c.args.fields.now (drop c.args.k leaves) in
-    texts-all texts c.loop-i.i (length c.args.fields.now) c.args.out.now.items _ _ (omega (arith, many, c.loop-i-test.false, c.loop-i.auto.i-end)) (omega (arith, many)) c.loop-i.invariant.pushed c.in_ok-push_record_end.ensures.ok
+    let all = texts-all texts c.loop-i.i (length c.args.fields.now) c.args.out.now.items _ _ (omega (arith, many, c.loop-i-test.false, c.loop-i.auto.i-end)) (omega (arith, many)) c.loop-i.invariant.pushed c.in_ok-push_record_end.ensures.ok in
+    record { ok = all; kept = StartsWith-pushed _ _ _ all; room = omega arith }

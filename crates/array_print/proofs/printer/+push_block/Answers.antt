@@ -1,33 +1,35 @@
-use Rattle.std.proofs.Common.{◌≡◌, ◌+◌, ◌*◌, ◌-◌, ◌<◌, ◌++◌, pos, ◌+ℤ◌, ◌*ℤ◌, ◌≤ℤ◌, get_or, length, map, drop, refl, sym, ap, subst, ◌∙◌, arith, take_all}
-use Rattle.array_print.proofs.Words.{count, max_bytes, block_text, separator, StartsWith-trans, part_offsets, shown, lead}
-use Rattle.array_print.proofs.PrintLaws.{StartsWith-along, opened-more, opened-all, opened-again}
-use Rattle.array_print.proofs.PartLaws.{at-first, stays, part-some, part-step, part-start, part-inner, part-block, length-part, part-item-inside}
+use Rattle.std.proofs.Common.{◌≡◌, ◌+◌, ◌*◌, ◌-◌, ◌<◌, ◌++◌, pos, ◌+ℤ◌, ◌*ℤ◌, get_or, length, map, drop, refl, sym, ap, ◌∙◌, arith, rules, take_all}
+use Rattle.array_print.proofs.Words.{count, block_text, separator, StartsWith-trans, part_offsets, shown, lead}
+use Rattle.array_print.proofs.PrintLaws.{StartsWith-along, StartsWith-pushed, opened-more, opened-all, opened-again}
+use Rattle.array_print.proofs.PartLaws.{at-first, stays, part-some, part-leads, part-inner, part-block, length-part, part-item-inside}
 use Rattle.array_print.proofs.printer.+push_block.Goals as goal
 
-pub push_item-requires-clause-inside : goal.push_item-requires-clause-inside
-push_item-requires-clause-inside t c =
-    part-item-inside c.args.layout.now c.args.axis c.args.offset _ _ (omega (arith, c.if-axis-lengths.true, ap length c.as_slice-lengths.ensures.value)) c.requires.part
+pub push_item-requires : goal.push_item-requires
+push_item-requires t c = record {
+  widths = c.requires.widths;
+  inside = part-item-inside c.args.layout.now c.args.axis c.args.offset _ _ (omega (arith, c.if-axis-lengths.true, ap length c.as_slice-lengths.ensures.value)) c.requires.part;
+}
 
 pub push_block-requires : goal.push_block-requires
 push_block-requires t c =
     let l = c.args.layout.now in
     let below : c.args.axis < length l.shape = omega (arith, c.if-axis-lengths.false, ap length c.as_slice-lengths.ensures.value, c.requires.part.axes) in
     let some = part-some l c.args.axis c.args.offset _ _ below c.requires.part in
-    (omega (arith, c.decreases, below), (c.requires.widths, part-inner l c.args.axis c.args.offset _ _ below c.requires.part 0 c.args.offset some.0 (at-first (get_or l.strides c.args.axis (pos 0)) c.args.offset)))
+    (omega (arith, c.decreases, below), record { widths = c.requires.widths; part = part-inner l c.args.axis c.args.offset _ _ below c.requires.part 0 c.args.offset some.0 (at-first (get_or l.strides c.args.axis (pos 0)) c.args.offset) })
 
-pub returns-in_err-push_block-clause-kept : goal.returns-in_err-push_block-clause-kept
-returns-in_err-push_block-clause-kept t c = StartsWith-along _ _ _ _ c.in_ok-push.ensures.items c.push_block.ensures.kept
+pub returns-in_err-push_block : goal.returns-in_err-push_block
+returns-in_err-push_block t c = record { ok = search rules; kept = StartsWith-along _ _ _ _ c.in_ok-push.ensures.items c.push_block.ensures.kept; room = omega arith }
 
-pub returns-in_err-push_again-clause-kept : goal.returns-in_err-push_again-clause-kept
-returns-in_err-push_again-clause-kept t c =
-    StartsWith-along _ _ _ _ c.in_ok-push.ensures.items (StartsWith-trans _ _ _ c.push_again.ensures.kept c.push_block.ensures.kept)
+pub returns-in_err-push_again : goal.returns-in_err-push_again
+returns-in_err-push_again t c =
+    record { ok = search rules; kept = StartsWith-along _ _ _ _ c.in_ok-push.ensures.items (StartsWith-trans _ _ _ c.push_again.ensures.kept c.push_block.ensures.kept); room = omega arith }
 
-pub returns-in_err-push_block-2-clause-kept : goal.returns-in_err-push_block-2-clause-kept
-returns-in_err-push_block-2-clause-kept t c =
-    StartsWith-along _ _ _ _ c.loop-k.invariant.pushed (StartsWith-trans _ _ _ c.push_block-in-loop-k.ensures.kept c.push_lead.ensures.kept)
+pub returns-in_err-push_block-2 : goal.returns-in_err-push_block-2
+returns-in_err-push_block-2 t c =
+    record { ok = search rules; kept = StartsWith-along _ _ _ _ c.loop-k.invariant.pushed (StartsWith-trans _ _ _ c.push_block-in-loop-k.ensures.kept c.push_lead.ensures.kept); room = omega arith }
 
-pub returns-then-repeats-clause-ok : goal.returns-then-repeats-clause-ok
-returns-then-repeats-clause-ok t c =
+pub returns-then-repeats : goal.returns-then-repeats
+returns-then-repeats t c =
     let l = c.args.layout.now in
     let start = c.args.offset in
     let f = shown c.args.items.now.descr.now c.args.items.now.widths.now c.args.items.now.block.now in
@@ -43,29 +45,17 @@ returns-then-repeats-clause-ok t c =
     let inner-is : inner ≡ length l.shape - c.args.axis - 1 = ap (λ m. m - c.args.axis - 1) lens in
     let first-is : c.len-first.result ≡ length c.push.new.self.items = omega (arith, c.len-first.ensures, c.push.new.self.ok) in
     let none : get_or l.strides c.args.axis (pos 0) ≡ pos 0 = ap (λ s. get_or s c.args.axis (pos 0)) (sym c.as_slice-strides.ensures) ∙ c.repeats.ensures.0 c.if-repeats.true in
-    opened-again f l.shape c.args.axis c.len-first.result times inner offsets c.args.out.now.items _ _ _ _ (text (map f (part_offsets l (c.args.axis + 1) start))) below times-is inner-is (length-part l c.args.axis start)
+    let all = opened-again f l.shape c.args.axis c.len-first.result times inner offsets c.args.out.now.items _ _ _ _ (text (map f (part_offsets l (c.args.axis + 1) start))) below times-is inner-is (length-part l c.args.axis start)
     (λ j low. ap (λ os. text (map f os)) (part-block l c.args.axis start _ _ below c.requires.part j start low (stays _ start j none)))
-    first-is c.in_ok-push.ensures.items c.in_ok-push_block.ensures.ok c.in_ok-push_again.ensures.ok c.in_ok-push-2.ensures.items
+    first-is c.in_ok-push.ensures.items c.in_ok-push_block.ensures.ok c.in_ok-push_again.ensures.ok c.in_ok-push-2.ensures.items in
+    record { ok = all; kept = StartsWith-pushed _ _ _ all; room = omega arith }
 
-pub step_along-requires-clause-start : goal.step_along-requires-clause-start
-step_along-requires-clause-start t c =
-    let l = c.args.layout.now in
-    let below : c.args.axis < length l.shape = omega (arith, c.if-axis-lengths.false, ap length c.as_slice-lengths.ensures.value, c.requires.part.axes) in
-    part-start l c.args.axis c.args.offset _ _ below c.requires.part
-
-pub step_along-requires-clause-low : goal.step_along-requires-clause-low
-step_along-requires-clause-low t c =
+pub step_along-requires-clause-leads : goal.step_along-requires-clause-leads
+step_along-requires-clause-leads t c =
     let l = c.args.layout.now in
     let below : c.args.axis < length l.shape = omega (arith, c.if-axis-lengths.false, ap length c.as_slice-lengths.ensures.value, c.requires.part.axes) in
     let low : c.loop-k.k < get_or l.shape c.args.axis 0 = omega (arith, c.loop-k-test.true, c.loop-k.auto.k-end, ap (λ s. get_or s c.args.axis 0) c.as_slice-lengths.ensures.value) in
-    subst (λ strides. pos 0 ≤ℤ (pos c.args.offset +ℤ get_or strides c.args.axis (pos 0) *ℤ pos c.loop-k.k)) (sym c.as_slice-strides.ensures) (part-step l c.args.axis c.args.offset _ _ below c.requires.part c.loop-k.k low).0
-
-pub step_along-requires-clause-high : goal.step_along-requires-clause-high
-step_along-requires-clause-high t c =
-    let l = c.args.layout.now in
-    let below : c.args.axis < length l.shape = omega (arith, c.if-axis-lengths.false, ap length c.as_slice-lengths.ensures.value, c.requires.part.axes) in
-    let low : c.loop-k.k < get_or l.shape c.args.axis 0 = omega (arith, c.loop-k-test.true, c.loop-k.auto.k-end, ap (λ s. get_or s c.args.axis 0) c.as_slice-lengths.ensures.value) in
-    subst (λ strides. (pos c.args.offset +ℤ get_or strides c.args.axis (pos 0) *ℤ pos c.loop-k.k) ≤ℤ pos max_bytes) (sym c.as_slice-strides.ensures) (part-step l c.args.axis c.args.offset _ _ below c.requires.part c.loop-k.k low).1
+    part-leads l c.args.axis c.args.offset _ _ below c.requires.part c.loop-k.k _ low c.as_slice-strides.ensures
 
 pub push_block-requires-in-loop-k : goal.push_block-requires-in-loop-k
 push_block-requires-in-loop-k t c =
@@ -73,7 +63,7 @@ push_block-requires-in-loop-k t c =
     let below : c.args.axis < length l.shape = omega (arith, c.if-axis-lengths.false, ap length c.as_slice-lengths.ensures.value, c.requires.part.axes) in
     let low : c.loop-k.k < get_or l.shape c.args.axis 0 = omega (arith, c.loop-k-test.true, c.loop-k.auto.k-end, ap (λ s. get_or s c.args.axis 0) c.as_slice-lengths.ensures.value) in
     let is : pos c.step_along.result ≡ pos c.args.offset +ℤ get_or l.strides c.args.axis (pos 0) *ℤ pos c.loop-k.k = c.step_along.ensures ∙ ap (λ s. pos c.args.offset +ℤ get_or s c.args.axis (pos 0) *ℤ pos c.loop-k.k) c.as_slice-strides.ensures in
-    (omega (arith, c.decreases, below), (c.requires.widths, part-inner l c.args.axis c.args.offset _ _ below c.requires.part c.loop-k.k c.step_along.result low is))
+    (omega (arith, c.decreases, below), record { widths = c.requires.widths; part = part-inner l c.args.axis c.args.offset _ _ below c.requires.part c.loop-k.k c.step_along.result low is })
 
 pub loop-k-preserved : goal.loop-k-preserved
 loop-k-preserved t c =
@@ -94,12 +84,13 @@ loop-k-preserved t c =
       room = omega arith;
     }
 
-pub returns-clause-ok : goal.returns-clause-ok
-returns-clause-ok t c =
+pub returns : goal.returns
+returns t c =
     let l = c.args.layout.now in
     let f = shown c.args.items.now.descr.now c.args.items.now.widths.now c.args.items.now.block.now in
     let offsets = part_offsets l c.args.axis c.args.offset in
     let below : c.args.axis < length l.shape = omega (arith, c.if-axis-lengths.false, ap length c.as_slice-lengths.ensures.value, c.requires.part.axes) in
     let all : c.loop-k.k ≡ get_or l.shape c.args.axis 0 = omega (arith, c.loop-k-test.false, c.loop-k.auto.k-end, ap (λ s. get_or s c.args.axis 0) c.as_slice-lengths.ensures.value) in
-    opened-all f l.shape c.args.axis c.loop-k.k offsets c.args.out.now.items _ _ below all c.loop-k.invariant.pushed c.in_ok-push-3.ensures.items
-    ∙ ap (λ os. c.args.out.now.items ++ block_text c.args.axis (drop c.args.axis l.shape) (map f os)) (take_all (count (drop c.args.axis l.shape)) offsets (omega (arith, length-part l c.args.axis c.args.offset)))
+    let whole = opened-all f l.shape c.args.axis c.loop-k.k offsets c.args.out.now.items _ _ below all c.loop-k.invariant.pushed c.in_ok-push-3.ensures.items
+    ∙ ap (λ os. c.args.out.now.items ++ block_text c.args.axis (drop c.args.axis l.shape) (map f os)) (take_all (count (drop c.args.axis l.shape)) offsets (omega (arith, length-part l c.args.axis c.args.offset))) in
+    record { ok = whole; kept = StartsWith-pushed _ _ _ whole; room = omega arith }

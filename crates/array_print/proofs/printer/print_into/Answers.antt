@@ -1,20 +1,17 @@
-use Rattle.std.proofs.Common.{true, Result, Ok, Err, is_err, ◌≡◌, ◌++◌, sym, subst, ◌∙◌, ap, OnOk}
-use Rattle.array_print.proofs.Words.{on_ok_weaker, leaves_of, count, offsets, items_from, AreWidths}
-use Rattle.array_print.proofs.LeafLaws.{are-widths}
+use Rattle.std.proofs.Common.{true, Result, Ok, Err, is_err, ◌≡◌, ◌++◌, sym, ◌∙◌, ap, OnOk}
+use Rattle.array_print.proofs.Words.{on_ok_weaker, count}
 use Rattle.array_print.proofs.PartLaws.{whole-part}
-use Rattle.array_print.proofs.WholeLaws.{above, whole-text}
+use Rattle.array_print.proofs.WholeLaws.{above, whole-text, whole-widths}
 use Rattle.array_print.proofs.printer.print_into.Goals.{then-is_err, else-is_err}
 use Rattle.array_print.proofs.printer.print_into.Goals as goal
 
-pub push_block-printed-requires-clause-widths : goal.push_block-printed-requires-clause-widths
-push_block-printed-requires-clause-widths c =
-    subst (λ ws. AreWidths (leaves_of c.args.descr.now) ws) (sym (c.as_slice.ensures ∙ c.in_ok-widths.ensures))
-    (are-widths c.args.descr.now c.args.layout.now.shape (items_from c.args.descr.now c.args.block.now (offsets c.args.layout.now)))
-
-pub push_block-printed-requires-clause-part : goal.push_block-printed-requires-clause-part
-push_block-printed-requires-clause-part c =
+pub push_block-printed-requires : goal.push_block-printed-requires
+push_block-printed-requires c =
     let some : count c.args.layout.now.shape ≡ 0 → ⊥ = λ none. c.if-items-eq0.false (c.items.ensures.value ∙ none) in
-    whole-part c.args.layout.now _ _ (above (count c.args.layout.now.shape) some) c.requires.inside
+    record {
+      widths = whole-widths c.args.descr.now c.args.layout.now c.args.block.now _ (c.as_slice.ensures ∙ c.in_ok-widths.ensures);
+      part = whole-part c.args.layout.now _ _ (above (count c.args.layout.now.shape) some) c.requires.inside;
+    }
 
 failed : {A E : Type 0} (r : Result A E) (P : Type 0) → is_err r ≡ true → OnOk r P
 failed (Ok x) P is = cc

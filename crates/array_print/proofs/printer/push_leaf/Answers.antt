@@ -12,14 +12,17 @@ pushed-leaf descr ws block old new offset k at wide scalar are below is fits who
     ∙ ap (λ text. old ++ text) (sym (text-at (leaves_of descr) ws (take (item_size descr) (drop offset block)) k scalar at are below is))
 
 pub bounds-items-k : goal.bounds-items-k
-bounds-items-k c = omega (arith, count-widths (leaves_of c.args.items.now.descr.now) c.args.items.now.widths.now c.requires.widths, c.requires.leaf)
+bounds-items-k c = omega (arith, count-widths (leaves_of c.args.items.now.descr.now) c.args.items.now.widths.now c.requires.item.widths, c.requires.leaf)
 
 pub push_value-requires-clause-width : goal.push_value-requires-clause-width
 push_value-requires-clause-width c =
-    width-at (leaves_of c.args.items.now.descr.now) c.args.items.now.widths.now c.args.k c.leaf_at-scalar.result.0 c.leaf_at-scalar.result.1 c.requires.widths c.requires.leaf c.leaf_at-scalar.ensures.leaf
+    width-at (leaves_of c.args.items.now.descr.now) c.args.items.now.widths.now c.args.k c.leaf_at-scalar.result.0 c.leaf_at-scalar.result.1 c.requires.item.widths c.requires.leaf c.leaf_at-scalar.ensures.leaf
 
-pub returns-clause-ok : goal.returns-clause-ok
-returns-clause-ok c =
-    on_ok_weaker c.push_value.result
-    (λ pushed. pushed-leaf c.args.items.now.descr.now c.args.items.now.widths.now c.args.items.now.block.now c.args.out.now.items c.push_value.new.out.items c.args.offset c.args.k c.leaf_at-scalar.result.1 _ c.leaf_at-scalar.result.0 c.requires.widths c.requires.leaf c.leaf_at-scalar.ensures.leaf c.leaf_at-scalar.ensures.within (omega (arith, c.size.ensures.value)) pushed)
-    c.push_value.ensures.ok
+pub returns : goal.returns
+returns c = record {
+  ok = on_ok_weaker c.push_value.result
+      (λ pushed. pushed-leaf c.args.items.now.descr.now c.args.items.now.widths.now c.args.items.now.block.now c.args.out.now.items c.push_value.new.out.items c.args.offset c.args.k c.leaf_at-scalar.result.1 _ c.leaf_at-scalar.result.0 c.requires.item.widths c.requires.leaf c.leaf_at-scalar.ensures.leaf c.leaf_at-scalar.ensures.within (omega (arith, c.size.ensures.value)) pushed)
+      c.push_value.ensures.ok;
+  kept = c.push_value.ensures.kept;
+  room = c.push_value.ensures.room;
+}

@@ -1,6 +1,6 @@
-use Rattle.std.proofs.Common.{◌≡◌, ◌+◌, ◌*◌, ◌<◌, ◌++◌, pos, ◌+ℤ◌, ◌*ℤ◌, ◌≤ℤ◌, get_or, length, take, drop, sym, ap, subst, ◌∙◌, arith, append_assoc, take-add, take_all}
-use Rattle.array_print.proofs.Words.{append-nil, count, max_bytes, widths_at, part_offsets}
-use Rattle.array_print.proofs.PartLaws.{part-some, part-step, part-start, part-inner, part-block, length-part, part-item, part-item-inside}
+use Rattle.std.proofs.Common.{◌≡◌, ◌+◌, ◌*◌, ◌<◌, ◌++◌, pos, ◌+ℤ◌, ◌*ℤ◌, get_or, length, take, drop, sym, ap, ◌∙◌, arith, append_assoc, take-add, take_all}
+use Rattle.array_print.proofs.Words.{append-nil, count, widths_at, part_offsets}
+use Rattle.array_print.proofs.PartLaws.{part-some, part-leads, part-inner, part-block, length-part, part-item, part-item-inside}
 use Rattle.array_print.proofs.RepeatLaws.{count-outer, widths-of-one}
 use Rattle.array_print.proofs.widths.+widen_part.Goals as goal
 use Rattle.array_print.proofs.widths.+widen_part.Goals.{then-repeats, else-repeats}
@@ -28,25 +28,12 @@ loop-k-init t c =
       wide = λ seen is. is ∙ ap wide (sym (append-nil seen)) ∙ ap (λ m. wide (seen ++ take m (part_offsets l c.args.axis c.args.offset))) none;
     }
 
-pub step_along-requires-clause-start : goal.step_along-requires-clause-start
-step_along-requires-clause-start t c =
-    let l = c.args.items.layout.now in
-    let below : c.args.axis < length l.shape = omega (arith, c.if-axis-lengths.false, ap length c.as_slice-lengths.ensures.value, c.requires.part.axes) in
-    part-start l c.args.axis c.args.offset _ _ below c.requires.part
-
-pub step_along-requires-clause-low : goal.step_along-requires-clause-low
-step_along-requires-clause-low t c =
+pub step_along-requires-clause-leads : goal.step_along-requires-clause-leads
+step_along-requires-clause-leads t c =
     let l = c.args.items.layout.now in
     let below : c.args.axis < length l.shape = omega (arith, c.if-axis-lengths.false, ap length c.as_slice-lengths.ensures.value, c.requires.part.axes) in
     let low : c.loop-k.k < get_or l.shape c.args.axis 0 = omega (arith, c.loop-k-test.true, c.loop-k.invariant.few) in
-    subst (λ strides. pos 0 ≤ℤ (pos c.args.offset +ℤ get_or strides c.args.axis (pos 0) *ℤ pos c.loop-k.k)) (sym c.as_slice-strides.ensures) (part-step l c.args.axis c.args.offset _ _ below c.requires.part c.loop-k.k low).0
-
-pub step_along-requires-clause-high : goal.step_along-requires-clause-high
-step_along-requires-clause-high t c =
-    let l = c.args.items.layout.now in
-    let below : c.args.axis < length l.shape = omega (arith, c.if-axis-lengths.false, ap length c.as_slice-lengths.ensures.value, c.requires.part.axes) in
-    let low : c.loop-k.k < get_or l.shape c.args.axis 0 = omega (arith, c.loop-k-test.true, c.loop-k.invariant.few) in
-    subst (λ strides. (pos c.args.offset +ℤ get_or strides c.args.axis (pos 0) *ℤ pos c.loop-k.k) ≤ℤ pos max_bytes) (sym c.as_slice-strides.ensures) (part-step l c.args.axis c.args.offset _ _ below c.requires.part c.loop-k.k low).1
+    part-leads l c.args.axis c.args.offset _ _ below c.requires.part c.loop-k.k _ low c.as_slice-strides.ensures
 
 pub widen_part-requires : goal.widen_part-requires
 widen_part-requires t c =
