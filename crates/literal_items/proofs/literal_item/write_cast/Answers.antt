@@ -1,4 +1,4 @@
-use Rattle.std.proofs.Common.{◌≡◌, true, replicate, sym, ap, ◌∙◌}
+use Rattle.std.proofs.Common.{replicate, sym, ap, ◌∙◌}
 use Rattle.literal_items.proofs.Words.{RecordDescr, AreInOrder, item_size, encode_item, decode_item, leaves_from, leaves_in_order, can_hold, can_be_item, values_of}
 use Rattle.literal_items.proofs.Fields.{seen_values, put_all, put_each, record_written, record_read}
 use Rattle.literal_items.proofs.literal_item.write_cast.Goals as goal
