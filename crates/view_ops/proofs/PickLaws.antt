@@ -62,9 +62,6 @@ whole_more old new axes n pick within is adds = record {
   show = map-append pick_shown adds.added (pick ∷ []) ∙ ap (λ l. l ++ pick_shown pick ∷ []) adds.show ∙ ap (λ p. map whole axes ++ p ∷ []) is ∙ sym (map-append whole axes (n ∷ []));
 }
 
-pub adds_new : {A : Type 0} (old new : List AxisPick) (axes : List ℕ) (item : IndexItem A) → item ≡ NewItem → axes ≡ [] → new ≡ old ++ NewAxis ∷ [] → AddsPicks old new axes (picks_of axes item)
-adds_new old new axes item is none after = rw (is, none) (record { added = NewAxis ∷ []; after = after; are = tt; show = refl })
-
 pub adds_none : (old : List AxisPick) → AddsPicks old old [] []
 adds_none old = record { added = []; after = sym (append-nil old); are = tt; show = refl }
 
