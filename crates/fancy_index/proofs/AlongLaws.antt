@@ -1,14 +1,8 @@
 -- Addresses along some axes, with the rest of the index fixed.
-use Rattle.std.proofs.Common.{◌≡◌, ℕ, ◌+◌, ◌<◌, ◌≤◌, ◌≤ℤ◌, List, [], ◌∷◌, ◌++◌, map, length, get_or, take, drop, All, refl, sym, ap, subst, ◌∙◌, arith, length-append, length-drop, length-take-le, ℤ, pos, ◌+ℤ◌}
-use Rattle.fancy_index.proofs.Words.{ints, get_or-map, length-map, All-drop, *ℤ-zero, Layout, max_axes, max_items, count, rank, IsIndex, dot, natural, address_at, address, offsets, pos-natural, get_or-offsets, IsShape, length-index, index_at, rank-lt, ShowsThrough, tuple, strides_along, offset_along, BeginAt}
-use Rattle.fancy_index.proofs.CutLaws.{dot-cut, some-behind, few-behind, shape-before}
+use Rattle.std.proofs.Common.{◌≡◌, ℕ, ◌+◌, ◌<◌, ◌≤◌, ◌≤ℤ◌, List, ◌++◌, map, length, get_or, take, drop, All, sym, ap, subst, ◌∙◌, arith, length-append, length-drop, length-take-le, ℤ, pos, ◌+ℤ◌}
+use Rattle.fancy_index.proofs.Words.{ints, get_or-map, length-map, All-drop, Layout, max_axes, max_items, count, rank, IsIndex, dot, natural, address_at, address, offsets, pos-natural, get_or-offsets, IsShape, length-index, index_at, rank-lt, ShowsThrough, tuple, strides_along, offset_along, BeginAt}
+use Rattle.fancy_index.proofs.CutLaws.{dot-cut, dot-origin, some-behind, few-behind, shape-before}
 use Rattle.fancy_index.proofs.ShiftLaws.{tuple-is, tuple-in}
-
--- numbers that are 0 add nothing
-dot-origin : (strides : List ℤ) (axes : List ℕ) → dot strides (map (λ _. 0) axes) ≡ pos 0
-dot-origin [] axes = refl
-dot-origin (s ∷ strides) [] = refl
-dot-origin (s ∷ strides) (n ∷ axes) = rw (*ℤ-zero s, dot-origin strides axes)
 
 -- the sum over all axes, as a sum of three parts
 cut : (strides : List ℤ) (front at back : List ℕ) (n m : ℕ) → length front ≡ n → length at ≡ m →

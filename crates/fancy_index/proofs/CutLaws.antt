@@ -1,7 +1,7 @@
 -- A layout that is cut between two axes: its first axes with 0 on the later ones, and its later axes with 0 on the
 -- first.
-use Rattle.std.proofs.Common.{◌≡◌, ◌⊎◌, inl, inr, Result, Ok, Err, ℕ, ◌*◌, ◌<◌, ◌≤◌, List, [], ◌∷◌, ◌++◌, length, take, drop, All, refl, sym, ap, subst, ◌∙◌, arith, length-drop, length-take-le, mul-le-mul_left, mul-le-mul_right, mul-one, one-mul, ℤ, pos, ◌+ℤ◌, ◌*ℤ◌}
-use Rattle.fancy_index.proofs.Words.{is_ok, false≢true, ints, take-append-drop, All-take, All-drop, +ℤ_idl, +ℤ_idr, +ℤ_assoc, Refusal, OutOfMemory, Layout, max_axes, max_items, max_bytes, count, IsIndex, IsShape, dot, address_at, LieWithin, address, zero_filled, factors_pos, length-index, IsIndex-append, dot-zeros, IsIndex-first, count-append, ShowsThrough, LieWithin-view}
+use Rattle.std.proofs.Common.{◌≡◌, ◌⊎◌, inl, inr, Result, Ok, Err, ℕ, ◌*◌, ◌<◌, ◌≤◌, List, [], ◌∷◌, ◌++◌, map, length, take, drop, All, append-nil, refl, sym, ap, subst, ◌∙◌, arith, length-drop, length-take-le, mul-le-mul_left, mul-le-mul_right, mul-one, one-mul, ℤ, pos, ◌+ℤ◌, ◌*ℤ◌}
+use Rattle.fancy_index.proofs.Words.{is_ok, false≢true, ints, take-append-drop, All-take, +ℤ_idl, +ℤ_assoc, Refusal, OutOfMemory, Layout, max_axes, max_items, count, IsIndex, IsShape, dot, address_at, BeginAt, address, zero_filled, factors_pos, length-index, IsIndex-append, dot-zeros, *ℤ-zero, take_all, IsIndex-first, count-append}
 
 -- ---- sums
 
@@ -10,6 +10,15 @@ dot-cut strides [] j = sym (+ℤ_idl (dot strides j))
 dot-cut [] (k ∷ i) j = refl
 dot-cut (s ∷ strides) (k ∷ i) j =
     ap (λ z. s *ℤ pos k +ℤ z) (dot-cut strides i j) ∙ sym (+ℤ_assoc (s *ℤ pos k) (dot (take (length i) strides) i) (dot (drop (length i) strides) j))
+
+-- numbers that are 0 add nothing
+pub dot-origin : (strides : List ℤ) (axes : List ℕ) → dot strides (map (λ _. 0) axes) ≡ pos 0
+dot-origin [] axes = refl
+dot-origin (s ∷ strides) [] = refl
+dot-origin (s ∷ strides) (n ∷ axes) = rw (*ℤ-zero s, dot-origin strides axes)
+
+at-first : (offset : ℤ) (sum x y : ℤ) → sum ≡ x +ℤ y → x ≡ pos 0 → y ≡ pos 0 → offset ≡ offset +ℤ sum
+at-first offset sum x y is none none' = omega (arith, ints, is, none, none')
 
 -- ---- shapes
 
@@ -35,10 +44,6 @@ module _ (shape : List ℕ) (k : ℕ) (some : 0 < count shape) where
   pub shape-before : k ≤ length shape → length shape ≤ max_axes → All (λ n. n ≤ max_items) shape → count shape ≤ max_items → IsShape (take k shape)
   shape-before within few short small =
       record { axes = omega (arith, length-take-le k shape within); lengths = All-take (λ n. n ≤ max_items) k shape short; items = omega (arith, few-before) }
-
-  pub shape-behind : k ≤ length shape → length shape ≤ max_axes → All (λ n. n ≤ max_items) shape → count shape ≤ max_items → IsShape (drop k shape)
-  shape-behind within few short small =
-      record { axes = omega (arith, length-drop k shape); lengths = All-drop (λ n. n ≤ max_items) k shape short; items = omega (arith, few-behind) }
 
   pub IsIndex-whole : (i j : List ℕ) → IsIndex (take k shape) i → IsIndex (drop k shape) j → IsIndex shape (i ++ j)
   IsIndex-whole i j in-i in-j = subst (λ (s : List ℕ). IsIndex s (i ++ j)) whole (IsIndex-append (take k shape) (drop k shape) i j in-i in-j)
@@ -75,26 +80,31 @@ module _ (rest : Layout) (k : ℕ) (within : k ≤ length rest.shape) (some : 0 
       regroup : (b s x y : ℤ) → s ≡ x +ℤ y → (b +ℤ s) +ℤ b ≡ (b +ℤ x) +ℤ (b +ℤ y)
       regroup b s x y is = omega (arith, ints, is)
 
-  pub before-shows : ShowsThrough rest (take k rest.shape) (take k rest.strides) rest.offset (λ i. i ++ zeros-behind)
-  before-shows = record {
+  -- the items along the first axes, and along the later axes, begin where all items do
+  pub begins-before : BeginAt rest 0 rest.offset (take k rest.shape)
+  begins-before = record {
+    front = [];
+    back = zeros-behind;
+    size = refl;
+    some = some-before rest.shape k some;
+    stand = ap (λ n. take n rest.shape) (length-take-le k rest.shape within);
     leads = λ i in-i. IsIndex-whole rest.shape k some i zeros-behind in-i in-behind;
-    same = λ i in-i. ap (λ z. pos rest.offset +ℤ z) (sym (both i zeros-behind in-i ∙ ap (λ z. dot (take k rest.strides) i +ℤ z) (dot-zeros (drop k rest.strides) (drop k rest.shape)) ∙ +ℤ_idr (dot (take k rest.strides) i)));
+    first = at-first _ _ _ _ (dot-cut rest.strides (map (λ _. 0) (take k rest.shape)) zeros-behind) (dot-origin _ (take k rest.shape)) (dot-zeros _ (drop k rest.shape));
   }
 
-  pub behind-shows : ShowsThrough rest (drop k rest.shape) (drop k rest.strides) rest.offset (λ j. zeros-before ++ j)
-  behind-shows = record {
-    leads = λ j in-j. IsIndex-whole rest.shape k some zeros-before j in-before in-j;
-    same = λ j in-j. ap (λ z. pos rest.offset +ℤ z) (sym (both zeros-before j in-before ∙ ap (λ z. z +ℤ dot (drop k rest.strides) j) (dot-zeros (take k rest.strides) (take k rest.shape)) ∙ +ℤ_idl (dot (drop k rest.strides) j)));
+  pub begins-behind : BeginAt rest k rest.offset (drop k rest.shape)
+  begins-behind = record {
+    front = zeros-before;
+    back = [];
+    size = size zeros-before in-before;
+    some = some-behind rest.shape k some;
+    stand = take_all (length (drop k rest.shape)) (drop k rest.shape) (omega arith);
+    leads = λ j in-j. subst (λ l. IsIndex rest.shape (zeros-before ++ l)) (sym (append-nil j)) (IsIndex-whole rest.shape k some zeros-before j in-before in-j);
+    first = at-first _ _ _ _ (dot-cut rest.strides zeros-before (map (λ _. 0) (drop k rest.shape) ++ [])) (dot-zeros _ (take k rest.shape)) (ap (dot _) (append-nil (map (λ _. 0) (drop k rest.shape))) ∙ dot-origin _ (drop k rest.shape));
   }
 
-  pub lies-before : LieWithin (take k rest.shape) (take k rest.strides) rest.offset max_bytes 1
-  lies-before = LieWithin-view rest (take k rest.shape) (take k rest.strides) rest.offset (λ i. i ++ zeros-behind) max_bytes 1 before-shows rest.within_limit
+  pub strides-before : take (length (take k rest.shape)) (drop 0 rest.strides) ≡ take k rest.strides
+  strides-before = ap (λ n. take n rest.strides) (length-take-le k rest.shape within)
 
-  pub lies-behind : LieWithin (drop k rest.shape) (drop k rest.strides) rest.offset max_bytes 1
-  lies-behind = LieWithin-view rest (drop k rest.shape) (drop k rest.strides) rest.offset (λ j. zeros-before ++ j) max_bytes 1 behind-shows rest.within_limit
-
-  pub strides-before : length (take k rest.strides) ≡ length (take k rest.shape)
-  strides-before = length-take-le k rest.strides (omega (arith, within, rest.one_stride_an_axis)) ∙ sym (length-take-le k rest.shape within)
-
-  pub strides-behind : length (drop k rest.strides) ≡ length (drop k rest.shape)
-  strides-behind = omega (arith, length-drop k rest.strides, length-drop k rest.shape, rest.one_stride_an_axis)
+  pub strides-behind : take (length (drop k rest.shape)) (drop k rest.strides) ≡ drop k rest.strides
+  strides-behind = take_all _ (drop k rest.strides) (omega (arith, length-drop k rest.strides, length-drop k rest.shape, rest.one_stride_an_axis))

@@ -1,20 +1,13 @@
 -- A plan is made of the other axes and of the offset of the first item with each point.
-use Rattle.std.proofs.Common.{◌≡◌, ℕ, zero, suc, ◌+◌, ◌*◌, ◌/◌, ◌<◌, ◌≤◌, ◌≤ℤ◌, Bool, true, false, cond, List, [], ◌++◌, map, length, get_or, take, drop, All, sym, ap, subst, ◌∙◌, arith, append_assoc, mul_assoc, mul_comm, length-take-le, ℤ, pos, ◌+ℤ◌}
-use Rattle.fancy_index.proofs.Words.{ints, div-mul-add, length-map, drop-drop, take-append-drop, All-map, take-append_seam, drop-append_seam, +ℤ_idr, Layout, max_bytes, count, indexes, rank, IsIndex, dot, address_at, natural, address, offsets, zero_filled, factors_pos, length-index, length-indexes, dot-zeros, IsIndex-first, pos-natural, get_or-offsets, count-append, picked_index, view_through, IndexPart, Part, other_axes, side_by_side, axes_before, points_place, leads, all_axes, leads_through, Planned, IsPlanOf, moved_offset, moved_all, IsMoved, IsStart, AreStarts, shown_part, AreParts, IsReady, IsReadyAt, first_at, first_offset, rest_picks, IsRest}
+use Rattle.std.proofs.Common.{◌≡◌, ℕ, zero, suc, ◌+◌, ◌*◌, ◌/◌, ◌<◌, ◌≤◌, ◌≤ℤ◌, List, [], ◌++◌, map, length, get_or, take, drop, All, sym, ap, subst, ◌∙◌, arith, append_assoc, mul_assoc, mul_comm, length-take-le, ℤ, pos, ◌+ℤ◌}
+use Rattle.fancy_index.proofs.Words.{ints, div-mul-add, length-map, drop-drop, take-append-drop, All-map, take-append_seam, drop-append_seam, +ℤ_idr, Layout, max_bytes, count, indexes, rank, IsIndex, dot, address_at, natural, address, offsets, zero_filled, factors_pos, length-index, length-indexes, dot-zeros, IsIndex-first, pos-natural, get_or-offsets, count-append, picked_index, view_through, IndexPart, Part, other_axes, points_place, leads, all_axes, leads_through, Planned, IsPlanOf, moved_offset, moved_all, IsMoved, IsStart, AreStarts, shown_part, AreParts, IsReady, IsReadyAt, first_at, first_offset, rest_picks, IsRest}
 use Rattle.fancy_index.proofs.CutLaws.{IsIndex-whole, some-behind, address-both}
 use Rattle.fancy_index.proofs.IndexSplits.{all_indexes, all_offsets, moved-joined, IsIndex-cut}
-use Rattle.fancy_index.proofs.LeadLaws.{leads-in, first-leads, split}
-use Rattle.fancy_index.proofs.PlaceLaws.{axes-within}
+use Rattle.fancy_index.proofs.LeadLaws.{leads-in, first-leads, picked-starts, split}
+use Rattle.fancy_index.proofs.PlaceLaws.{place-within}
 use Rattle.fancy_index.proofs.ShiftLaws.{all_ready_at}
 
 -- ---- where the axes of the points are
-
-place-of : (beside : Bool) (before all : ℕ) → before ≤ all → cond beside before 0 ≤ all
-place-of true before all low = low
-place-of false before all low = omega arith
-
-pub place-within : (parts : List Part) → points_place parts ≤ length (other_axes parts)
-place-within parts = place-of (side_by_side parts) (axes_before parts) (length (other_axes parts)) (axes-within parts)
 
 module _ (parts : List IndexPart) (points : List ℕ) where
   abbrev pub shown_parts : List Part
@@ -95,6 +88,10 @@ module _ (layout rest outer inner : Layout) (parts : List IndexPart) (points : L
 
   zeros-rest : address rest zeros ≡ pos rest.offset
   zeros-rest = ap (λ z. pos rest.offset +ℤ z) (dot-zeros rest.strides (other_axes shown)) ∙ +ℤ_idr (pos rest.offset)
+
+  -- the rest begins at the item with all points at 0
+  pub rest-start : pos rest.offset ≡ address layout (Rattle.fancy_index.specs.inside.Sums.starts parts)
+  rest-start = sym zeros-rest ∙ laid.is_rest.same zeros (to-rest zeros zeros-in) ∙ ap (address layout) (picked-starts parts zeros-in)
 
   pub leads-to : (at j : List ℕ) → IsIndex points at → IsIndex (other_axes shown) j → IsIndex layout.shape (leads at shown j)
   leads-to at j in-at in-j = leads-in at layout.shape parts j laid.are (ready at in-at) in-j

@@ -1,6 +1,6 @@
 -- Which indexes of the array the indexes of the result lead to, part by part.
 use Rattle.std.proofs.Common.{◌≡◌, ℕ, ◌+◌, ◌<◌, ◌≤◌, IsTrue, List, [], ◌∷◌, ◌++◌, map, length, get_or, take, drop, All, refl, sym, ap, subst, ◌∙◌, arith, length-append, ℤ, pos, ◌+ℤ◌, ◌*ℤ◌}
-use Rattle.fancy_index.proofs.Words.{ints, get_or-map, All-head, All-tail, All-cons, All-nil, +ℤ_idl, *ℤ-zero, max_axes, count, rank, IsIndex, dot, zero_filled, factors_pos, length-index, IsIndex-append, AxisPick, run_numbers, picked_index, pick_shown, ArePicks, length-run, number_at, can_stretch, broadcast_index, AtAxis, AlongAxis, NewAxis, PointList, IndexPart, AxisPart, PointsPart, BetweenPart, point_shapes, other_axes, leads, tuple, ranks_of, shown_part, AreParts, IsReady, HasPointAt, IsReadyAt, point_of, first_at, rest_picks}
+use Rattle.fancy_index.proofs.Words.{ints, get_or-map, All-head, All-tail, All-cons, All-nil, +ℤ_idl, *ℤ-zero, max_axes, count, rank, IsIndex, dot, zero_filled, factors_pos, length-index, IsIndex-append, AxisPick, run_numbers, picked_index, pick_shown, ArePicks, length-run, number_at, can_stretch, broadcast_index, AtAxis, AlongAxis, NewAxis, PointList, IndexPart, AxisPart, PointsPart, BetweenPart, point_shapes, other_axes, leads, tuple, ranks_of, shown_part, AreParts, IsReady, HasPointAt, IsReadyAt, point_of, first_at, rest_picks, starts}
 use Rattle.fancy_index.specs.Words.{first_number}
 use Rattle.fancy_index.proofs.CutLaws.{dot-cut}
 use Rattle.fancy_index.proofs.ShiftLaws.{rank-low, point-low, tuple-in}
@@ -21,6 +21,24 @@ all_ready [] points (AxisPart (AlongAxis run) ∷ parts) are few fit = absurd ar
 all_ready (n ∷ shape) points [] are few fit = absurd are
 all_ready (n ∷ shape) points (AxisPart (AtAxis number) ∷ parts) are few fit = All-cons (IsReady points) (AxisPart (AtAxis number)) parts tt (all_ready shape points parts are.1 (omega (arith, few)) fit)
 all_ready (n ∷ shape) points (AxisPart (AlongAxis run) ∷ parts) are few fit = All-cons (IsReady points) (AxisPart (AlongAxis run)) parts tt (all_ready shape points parts are.1 (omega (arith, few)) fit)
+
+-- ---- the first item that is picked if all points are 0
+
+zeros-picked : (axes : List ℕ) (picks : List AxisPick) (index : List ℕ) → picked_index (map pick_shown (map (λ _. AtAxis 0) axes ++ picks)) index ≡ map (λ _. 0) axes ++ picked_index (map pick_shown picks) index
+zeros-picked [] picks index = refl
+zeros-picked (n ∷ axes) picks index = ap (λ l. 0 ∷ l) (zeros-picked axes picks index)
+
+pub picked-starts : (parts : List IndexPart) → IsIndex (other_axes (map shown_part parts)) (zero_filled (other_axes (map shown_part parts)) []) →
+    picked_index (map pick_shown (rest_picks parts)) (zero_filled (other_axes (map shown_part parts)) []) ≡ starts parts
+picked-starts [] in' = refl
+picked-starts (BetweenPart ∷ parts) in' = picked-starts parts in'
+picked-starts (PointsPart p ∷ parts) in' = zeros-picked p.axes.items (rest_picks parts) _ ∙ ap (λ l. map (λ _. 0) p.axes.items ++ l) (picked-starts parts in')
+picked-starts (AxisPart NewAxis ∷ parts) in' = picked-starts parts in'.1
+picked-starts (AxisPart (AtAxis number) ∷ parts) in' = ap (λ l. number ∷ l) (picked-starts parts in')
+picked-starts (AxisPart (AlongAxis run) ∷ parts) in' =
+    let number : get_or (run_numbers run) 0 0 ≡ run.first = number_at run 0 (omega (arith, length-run run, in'.0)) ∙ first_number run in
+    let later = picked-starts parts in'.1 in
+    λ i. number i ∷ later i
 
 -- ---- for the point of one index
 

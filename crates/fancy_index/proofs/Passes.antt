@@ -1,6 +1,6 @@
 -- Passes over the offsets of a plan: each step keeps what the whole pass must do.
 use Rattle.std.proofs.Common.{◌≡◌, ℕ, ◌+◌, ◌*◌, ◌<◌, ◌≤◌, List, [], ◌∷◌, ◌++◌, map, length, get_or, drop, All, sym, ap, subst, ◌∙◌, arith, add-mul, zero-mul, length-append, append_assoc, append-nil, pos}
-use Rattle.fancy_index.proofs.Words.{flat_map, get_or-map, length-map, map-append, drop_more, flat_map-append, All-head, All-tail, put, item_at, Run, LieWithin, max_bytes, run_offsets, length-run_offsets, assigned, joined_at, All-back, All-front, assigned-append, put_each, moved_offset, shifted_all, moved_all, IsMoved, packed, length-packed, packed-append, put_each-append}
+use Rattle.fancy_index.proofs.Words.{flat_map, get_or-map, length-map, map-append, drop_more, flat_map-append, All-head, All-tail, put, item_at, Run, LieWithin, max_bytes, run_offsets, length-run_offsets, assigned, joined_at, All-back, All-front, assigned-append, put_each, CanPush, CanScatter, HavePushed, moved_offset, shifted_all, moved_all, IsMoved, packed, length-packed, packed-append, put_each-append}
 
 pub All-unmap : (P : ℕ → Type 0) (f : ℕ → ℕ) (xs : List ℕ) → All P (map f xs) → All (λ x. P (f x)) xs
 All-unmap P f xs all = λ k d below. subst P (get_or-map f xs k d (f d) below) (all k (f d) (omega (arith, length-map xs f)))
@@ -47,11 +47,6 @@ pub record Scattering (left : List ℕ) (at width end : ℕ) (items block whole 
   pub ends : at + length left * width ≡ end
   pub room : end ≤ length items
 
--- what a step needs to scatter the next items
-pub record CanScatter (left : List ℕ) (at width : ℕ) (items block : List ℕ) : Type 0 where
-  pub inside : All (λ offset. offset + width ≤ length block) left
-  pub room : at + length left * width ≤ length items
-
 longer : (xs ys : List ℕ) (at width : ℕ) → at + length (xs ++ ys) * width ≡ at + length xs * width + length ys * width
 longer xs ys at width = omega (arith, ap (λ n. n * width) (length-append xs ys), add-mul (length xs) (length ys) width)
 
@@ -85,11 +80,6 @@ pub record Pushing (all left : List ℕ) (width : ℕ) (block : List ℕ) (old n
   pub ends : length all * width + now.1 ≡ old.1 + length left * width
   pub fits : length all * width ≤ old.1
 
--- what a step needs to push the next items
-pub record CanPush (xs : List ℕ) (width : ℕ) (block : List ℕ) (now : List ℕ × ℕ) : Type 0 where
-  pub inside : All (λ offset. offset + width ≤ length block) xs
-  pub room : length xs * width ≤ now.1
-
 both : (xs ys : List ℕ) (width : ℕ) → length (xs ++ ys) * width ≡ length xs * width + length ys * width
 both xs ys width = ap (λ n. n * width) (length-append xs ys) ∙ add-mul (length xs) (length ys) width
 
@@ -99,26 +89,26 @@ push_front all left xs ys width block old now split have = record {
   room = omega (arith, have.ends, have.fits, ap (λ l. length l * width) split, both xs ys width);
 }
 
-pub pushed_front : (all left xs ys : List ℕ) (width : ℕ) (block : List ℕ) (old now new : List ℕ × ℕ) → left ≡ xs ++ ys → new.0 ≡ now.0 ++ joined_at xs width block → length xs * width + new.1 ≡ now.1 →
+pub pushed_front : (all left xs ys : List ℕ) (width : ℕ) (block : List ℕ) (old now new : List ℕ × ℕ) → left ≡ xs ++ ys → HavePushed xs width block now new →
     Pushing all left width block old now → Pushing all ys width block old new
-pushed_front all left xs ys width block old now new split pushed room have = record {
+pushed_front all left xs ys width block old now new split pushed have = record {
   rest =
-      ap (λ l. l ++ joined_at ys width block) pushed
+      ap (λ l. l ++ joined_at ys width block) pushed.bytes
       ∙ append_assoc now.0 (joined_at xs width block) (joined_at ys width block)
       ∙ ap (λ l. now.0 ++ l) (sym (flat_map-append (λ offset. item_at offset width block) xs ys))
       ∙ ap (λ l. now.0 ++ joined_at l width block) (sym split)
       ∙ have.rest;
   inside = All-back (λ offset. offset + width ≤ length block) xs ys (subst (All (λ offset. offset + width ≤ length block)) split have.inside);
-  ends = omega (arith, have.ends, room, ap (λ l. length l * width) split, both xs ys width);
+  ends = omega (arith, have.ends, pushed.left, ap (λ l. length l * width) split, both xs ys width);
   fits = have.fits;
 }
 
 -- all items are pushed
-pub pushed_all : (all left : List ℕ) (width : ℕ) (block : List ℕ) (old now : List ℕ × ℕ) → left ≡ [] → Pushing all left width block old now → (now.0 ≡ old.0 ++ joined_at all width block) × (length all * width + now.1 ≡ old.1)
-pushed_all all left width block old now none have = (
-  sym (append-nil now.0) ∙ ap (λ l. now.0 ++ joined_at l width block) (sym none) ∙ have.rest,
-  omega (arith, have.ends, ap (λ l. length l * width) none, zero-mul width),
-)
+pub pushed_all : (all left : List ℕ) (width : ℕ) (block : List ℕ) (old now : List ℕ × ℕ) → left ≡ [] → Pushing all left width block old now → HavePushed all width block old now
+pushed_all all left width block old now none have = record {
+  bytes = sym (append-nil now.0) ∙ ap (λ l. now.0 ++ joined_at l width block) (sym none) ∙ have.rest;
+  left = omega (arith, have.ends, ap (λ l. length l * width) none, zero-mul width);
+}
 
 -- ---- items that are filled
 
@@ -200,8 +190,8 @@ push_run all base start width run left left' block old now walked have =
 pub pushed_run : (all : List ℕ) (base start width : ℕ) (run : Run) (left left' : List Run) (block : List ℕ) (old now new : List ℕ × ℕ) → left ≡ run ∷ left' → new.0 ≡ now.0 ++ joined_at (map (moved_offset base start) (run_offsets run)) width block → run.count * width + new.1 ≡ now.1 →
     Pushing all (moved_runs base start left) width block old now → Pushing all (moved_runs base start left') width block old new
 pushed_run all base start width run left left' block old now new walked pushed room have =
-    pushed_front all (moved_runs base start left) (map (moved_offset base start) (run_offsets run)) (moved_runs base start left') width block old now new (split-runs base start run left left' walked) pushed
-    (ap (λ n. n * width + new.1) (long-run base start run) ∙ room) have
+    pushed_front all (moved_runs base start left) (map (moved_offset base start) (run_offsets run)) (moved_runs base start left') width block old now new (split-runs base start run left left' walked)
+    (record { bytes = pushed; left = ap (λ n. n * width + new.1) (long-run base start run) ∙ room }) have
 
 pub fill_run : (base start : ℕ) (run : Run) (left left' : List Run) (item block whole : List ℕ) → left ≡ run ∷ left' → Filling (moved_runs base start left) item block whole → All (λ offset. moved_offset base start offset + length item ≤ length block) (run_offsets run)
 fill_run base start run left left' item block whole walked have =

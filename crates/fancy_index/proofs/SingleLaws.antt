@@ -1,8 +1,8 @@
 -- Single items that are gathered, scattered and filled.
 use Rattle.std.proofs.Common.{◌≡◌, ℕ, ◌+◌, ◌-◌, ◌<◌, ◌≤◌, List, [], ◌∷◌, ◌++◌, map, length, get_or, drop, slice_range, refl, sym, ap, ◌∙◌, arith, append-nil}
-use Rattle.fancy_index.proofs.Words.{drop_more, map-append, drop_split, put, item_at, Layout, count, offsets, length-offsets, entry-first, assigned, moved_offset, shifted_all, packed}
+use Rattle.fancy_index.proofs.Words.{drop_more, map-append, drop_split, put, item_at, Layout, count, offsets, length-offsets, entry-first, assigned, CanScatter, moved_offset, shifted_all, packed}
 use Rattle.fancy_index.proofs.GatherLaws.{packed-suc}
-use Rattle.fancy_index.proofs.Passes.{CanScatter, Scattering, Pushing, Filling, scatter_front, scattered_front, push_front, pushed_front, fill_front, filled_front}
+use Rattle.fancy_index.proofs.Passes.{Scattering, Pushing, Filling, scatter_front, scattered_front, push_front, pushed_front, fill_front, filled_front}
 
 -- ---- layouts of one item
 
@@ -61,7 +61,7 @@ module _ (base place : ℕ) (shifts : List ℕ) (k start : ℕ) (low : k < lengt
 
   pub pushed_one : (all : List ℕ) (width : ℕ) (block : List ℕ) (old builder new : List ℕ × ℕ) → new.0 ≡ builder.0 ++ item_at start width block → width + new.1 ≡ builder.1 → Pushing all now width block old builder → Pushing all later width block old new
   pushed_one all width block old builder new pushed room have =
-      pushed_front all now (start ∷ []) later width block old builder new split (pushed ∙ ap (λ l. builder.0 ++ l) (sym (append-nil (item_at start width block)))) (omega (arith, room)) have
+      pushed_front all now (start ∷ []) later width block old builder new split (record { bytes = pushed ∙ ap (λ l. builder.0 ++ l) (sym (append-nil (item_at start width block))); left = omega (arith, room) }) have
 
   pub scatter_one : (at width end : ℕ) (items block whole : List ℕ) → Scattering now at width end items block whole → CanCopy start at width items block
   scatter_one at width end items block whole have = can_copy start at width items block (scatter_front now (start ∷ []) later at width end items block whole split have)

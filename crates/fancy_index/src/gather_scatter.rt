@@ -1,7 +1,7 @@
 //! Gathers the items of a plan, copies items to them, and fills them with one item, strictly one
 //! after the other.
-ghost use Rattle.std.specs.Prelude.{All, length, ◌*◌, ◌++◌, ◌+◌, ◌≡◌, ◌≤◌};
-ghost use Rattle.fancy_index.specs.Clauses.{put_each, assigned, joined_at, row_offsets, FitAt, end_of, moved_offsets, offsets_from, put_packed, shifted_offsets};
+ghost use Rattle.std.specs.Prelude.{length};
+ghost use Rattle.fancy_index.specs.Clauses.{CanPush, CanPut, FitAt, HaveFilled, HavePushed, HavePut, moved_offsets, offsets_from, shifted_offsets};
 
 use crate::plan_rows::{MovedLayout, PlanAxes, Shifted, fill_run, moved, moved_run};
 use crate::short_rows::ShortRows;
@@ -17,10 +17,8 @@ fn push_moved(
     source: MovedLayout<'_>,
     width: usize,
 ) -> BlockBuilder
-    requires inside { All (λ offset. offset + width ≤ length block.now) (moved_offsets source) }
-    requires room { length (moved_offsets source) * width ≤ items.1 }
-    ensures bytes { result.0 ≡ items.0 ++ joined_at (moved_offsets source.entry) width block.now }
-    ensures left { length (moved_offsets source.entry) * width + result.1 ≡ items.1 }
+    requires { CanPush (moved_offsets source) width block.now items }
+    ensures { HavePushed (moved_offsets source.entry) width block.now items result }
 {
     let mut items = items;
     if let Some(run) = source.as_run() {
@@ -41,10 +39,8 @@ fn push_shifted(
     rows: Shifted<'_>,
     width: usize,
 ) -> BlockBuilder
-    requires inside { All (λ offset. offset + width ≤ length block.now) (shifted_offsets rows) }
-    requires room { length (shifted_offsets rows) * width ≤ items.1 }
-    ensures bytes { result.0 ≡ items.0 ++ joined_at (shifted_offsets rows.entry) width block.now }
-    ensures left { length (shifted_offsets rows.entry) * width + result.1 ≡ items.1 }
+    requires { CanPush (shifted_offsets rows) width block.now items }
+    ensures { HavePushed (shifted_offsets rows.entry) width block.now items result }
 {
     if let Some(bytes) = rows.row_bytes(width) {
         return push_singles(items, block, rows, bytes);
@@ -65,10 +61,8 @@ pub(crate) fn push_all(
     axes: &PlanAxes,
     width: usize,
 ) -> BlockBuilder
-    requires inside { All (λ offset. offset + width ≤ length block.now) (offsets_from axes.now) }
-    requires room { length (offsets_from axes.now) * width ≤ items.1 }
-    ensures bytes { result.0 ≡ items.0 ++ joined_at (offsets_from axes.now) width block.now }
-    ensures left { length (offsets_from axes.now) * width + result.1 ≡ items.1 }
+    requires { CanPush (offsets_from axes.now) width block.now items }
+    ensures { HavePushed (offsets_from axes.now) width block.now items result }
 {
     if let Some(rows) = ShortRows::of(axes, width) {
         return rows.push(items, block, width);
@@ -83,11 +77,8 @@ pub(crate) fn push_all(
 /// Copies the items of a source to those of a shifted layout, run by run. Returns where the copied
 /// items end.
 fn scatter_moved(block: &mut RawBlock, target: MovedLayout<'_>, source: PackedItems<'_>) -> usize
-    requires inside { FitAt (moved_offsets target) source.width block.old }
-    requires room { end_of source (length (moved_offsets target)) ≤ length source.items.now }
-    ensures written { block.new ≡ put_packed (moved_offsets target.entry) source.entry block.old }
-    ensures len { length block.new ≡ length block.old }
-    ensures end { result ≡ end_of source.entry (length (moved_offsets target.entry)) }
+    requires { CanPut (moved_offsets target) source block.old }
+    ensures { HavePut (moved_offsets target.entry) source.entry block.old block.new result }
 {
     let PackedItems { items, at, width } = source;
     let len = items.len();
@@ -109,11 +100,8 @@ fn scatter_moved(block: &mut RawBlock, target: MovedLayout<'_>, source: PackedIt
 /// Copies the items of a source to the inner axes, once for each shift. Inner axes of one item need
 /// no walk.
 fn scatter_shifts(block: &mut RawBlock, rows: Shifted<'_>, source: PackedItems<'_>) -> usize
-    requires inside { FitAt (shifted_offsets rows) source.width block.old }
-    requires room { end_of source (length (shifted_offsets rows)) ≤ length source.items.now }
-    ensures written { block.new ≡ put_packed (shifted_offsets rows.entry) source.entry block.old }
-    ensures len { length block.new ≡ length block.old }
-    ensures end { result ≡ end_of source.entry (length (shifted_offsets rows.entry)) }
+    requires { CanPut (shifted_offsets rows) source block.old }
+    ensures { HavePut (shifted_offsets rows.entry) source.entry block.old block.new result }
 {
     if rows.is_single() {
         return scatter_singles(block, rows, source);
@@ -128,29 +116,25 @@ fn scatter_shifts(block: &mut RawBlock, rows: Shifted<'_>, source: PackedItems<'
     at
 }
 
-/// Copies the items to all items of the axes.
-pub(crate) fn scatter(block: &mut RawBlock, axes: &PlanAxes, items: &RawBlock, width: usize)
-    requires inside { FitAt (offsets_from axes.now) width block.old }
-    requires room { length (offsets_from axes.now) * width ≤ length items.now }
-    ensures written { let packed = row_offsets 0 width (length (offsets_from axes.now)) in
-        block.new ≡ assigned (offsets_from axes.now) packed width items.now block.old }
-    ensures len { length block.new ≡ length block.old }
+/// Copies the items of a source to all items of the axes.
+pub(crate) fn scatter(block: &mut RawBlock, axes: &PlanAxes, source: PackedItems<'_>) -> usize
+    requires { CanPut (offsets_from axes.now) source block.old }
+    ensures { HavePut (offsets_from axes.now) source.entry block.old block.new result }
 {
-    if let Some(rows) = ShortRows::of(axes, width) {
-        rows.scatter(block, items, width);
-        return;
+    if let Some(rows) = ShortRows::of(axes, source.width) {
+        return rows.scatter(block, source);
     }
-    let mut at = 0;
+    let mut at = source.at;
     for place in Walk::new(&axes.outer) {
-        at = scatter_shifts(block, axes.rows(place), PackedItems { items, at, width });
+        at = scatter_shifts(block, axes.rows(place), PackedItems { at, ..source });
     }
+    at
 }
 
 /// Writes the item to those of a shifted layout, run by run.
 fn fill_moved(block: &mut RawBlock, target: MovedLayout<'_>, item: &[u8])
-    requires { All (λ offset. offset + length item.now ≤ length block.old) (moved_offsets target) }
-    ensures written { block.new ≡ put_each (moved_offsets target.entry) item.now block.old }
-    ensures len { length block.new ≡ length block.old }
+    requires { FitAt (moved_offsets target) (length item.now) block.old }
+    ensures { HaveFilled (moved_offsets target.entry) item.now block.old block.new }
 {
     if let Some(run) = target.as_run() {
         fill_run(block, run, item);
@@ -164,9 +148,8 @@ fn fill_moved(block: &mut RawBlock, target: MovedLayout<'_>, item: &[u8])
 
 /// Writes the item to the inner axes, once for each shift. Inner axes of one item need no walk.
 fn fill_shifts(block: &mut RawBlock, rows: Shifted<'_>, item: &[u8])
-    requires { All (λ offset. offset + length item.now ≤ length block.old) (shifted_offsets rows) }
-    ensures written { block.new ≡ put_each (shifted_offsets rows.entry) item.now block.old }
-    ensures len { length block.new ≡ length block.old }
+    requires { FitAt (shifted_offsets rows) (length item.now) block.old }
+    ensures { HaveFilled (shifted_offsets rows.entry) item.now block.old block.new }
 {
     if rows.is_single() {
         fill_singles(block, rows, item);
@@ -181,9 +164,8 @@ fn fill_shifts(block: &mut RawBlock, rows: Shifted<'_>, item: &[u8])
 
 /// Writes the item to all items of the axes.
 pub(crate) fn fill(block: &mut RawBlock, axes: &PlanAxes, item: &[u8])
-    requires { All (λ offset. offset + length item.now ≤ length block.old) (offsets_from axes.now) }
-    ensures written { block.new ≡ put_each (offsets_from axes.now) item.now block.old }
-    ensures len { length block.new ≡ length block.old }
+    requires { FitAt (offsets_from axes.now) (length item.now) block.old }
+    ensures { HaveFilled (offsets_from axes.now) item.now block.old block.new }
 {
     if let Some(rows) = ShortRows::of(axes, item.len()) {
         rows.fill(block, item);

@@ -315,7 +315,8 @@ fn lead_along(run: Run, ranks: &mut [u32])
     }
 }
 
-/// Replaces each rank by its offset, run by run.
+/// Replaces each rank by its offset, run by run. Its loop needs all registers, so it is not inlined.
+#[inline(never)]
 fn lead_by_runs(layout: &Layout, ranks: &mut [u32])
     requires some { 0 < count layout.now.shape }
     requires ranks { All (λ rank. rank < count layout.now.shape) ranks.old }

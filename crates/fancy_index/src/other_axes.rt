@@ -19,10 +19,7 @@ fn push_zeros(picks: &mut SmallVec<AxisPick, 4>, axes: &[usize]) -> Result<(), A
 }
 
 /// What the parts pick from the axes of a layout, with all points at 0.
-pub(crate) fn rest_picks(
-    alloc: Global,
-    parts: &[IndexPart<'_>],
-) -> Result<SmallVec<AxisPick, 4>, AllocError>
+fn rest_picks(alloc: Global, parts: &[IndexPart<'_>]) -> Result<SmallVec<AxisPick, 4>, AllocError>
     ensures { IfOk result (λ v. v.items ≡ rest_picks parts.now) }
 {
     let mut picks = SmallVec::new(alloc);
@@ -49,38 +46,4 @@ pub(crate) fn rest(
 {
     let picks = rest_picks(alloc, parts)?;
     with_picks(alloc, layout, picks.as_slice())
-}
-
-/// The layout of the first axes, with the others at 0.
-pub(crate) fn front(alloc: Global, layout: &Layout, axes: usize) -> Result<Layout, AllocError>
-    requires axes { axes ≤ length layout.now.shape }
-    requires some { 0 < count layout.now.shape }
-    ensures shape { IfOk result (λ l. l.shape ≡ take axes layout.now.shape) }
-    ensures strides { IfOk result (λ l. l.strides ≡ take axes layout.now.strides) }
-    ensures offset { IfOk result (λ l. l.offset ≡ layout.now.offset) }
-{
-    let shape = Shape::from_lengths(alloc, &layout.shape.as_slice()[..axes])?;
-    let strides = Strides::from_slice(alloc, &layout.strides.as_slice()[..axes])?;
-    Ok(Layout {
-        shape,
-        strides,
-        offset: layout.offset,
-    })
-}
-
-/// The layout of the axes after the first ones, with these at 0.
-pub(crate) fn back(alloc: Global, layout: &Layout, axes: usize) -> Result<Layout, AllocError>
-    requires axes { axes ≤ length layout.now.shape }
-    requires some { 0 < count layout.now.shape }
-    ensures shape { IfOk result (λ l. l.shape ≡ drop axes layout.now.shape) }
-    ensures strides { IfOk result (λ l. l.strides ≡ drop axes layout.now.strides) }
-    ensures offset { IfOk result (λ l. l.offset ≡ layout.now.offset) }
-{
-    let shape = Shape::from_lengths(alloc, &layout.shape.as_slice()[axes..])?;
-    let strides = Strides::from_slice(alloc, &layout.strides.as_slice()[axes..])?;
-    Ok(Layout {
-        shape,
-        strides,
-        offset: layout.offset,
-    })
 }

@@ -94,7 +94,7 @@ impl PlanAxes {
     ghost use Rattle.std.specs.Prelude.{IfOk, IfSome};
 
     /// The step by which the shifts rise, if they are many, rise evenly, and each selects one item.
-    fn even_step(&self) -> Option<u32>
+    pub(crate) fn even_step(&self) -> Option<u32>
         ensures { IfSome result (AreEven self.now) }
     {
         let shifts = self.shifts.as_slice();
@@ -110,16 +110,14 @@ impl PlanAxes {
         Some(step)
     }
 
-    /// The axes of the same items, with an inner axis in place of the shifts, if these rise evenly:
+    /// The axes of the same items, with an inner axis in place of the shifts, which rise by `step`:
     /// the items are then copied as a run. Its frame is large, so it is not inlined.
     #[inline(never)]
-    pub(crate) fn evened(&self, alloc: Global) -> Result<Option<PlanAxes>, AllocError>
+    pub(crate) fn evened(&self, alloc: Global, step: u32) -> Result<Option<PlanAxes>, AllocError>
+        requires { AreEven self.now step }
         ensures { IfOk result
             (λ even. IfSome even (λ axes. offsets_from axes ≡ offsets_from self.now)) }
     {
-        let Some(step) = self.even_step() else {
-            return Ok(None);
-        };
         let shape = Shape::from_lengths(alloc, &[self.shifts.len()])?;
         let strides = Strides::from_slice(alloc, &[step as isize])?;
         let Some(inner) = Layout::new(shape, strides, self.inner.offset) else {

@@ -4,11 +4,11 @@ ghost use Rattle.fancy_index.specs.Clauses.{OutOfMemory, count, shape_of, points
 
 use crate::checks::check;
 use crate::index_parts::{IndexPart, check_numbers, parts_of};
-use crate::other_axes::{back, front, rest};
+use crate::other_axes::rest;
 use crate::plans::Plan;
 use crate::points::points_shape;
 use crate::result_axes::{points_place, shape_of_all};
-use crate::shift_columns::shifts;
+use crate::shift_columns::{Origin, along, shifts};
 use arrays::Items;
 use elem_descr::{IndexItem, Refusal};
 use shape_strides::{Layout, Shape};
@@ -59,9 +59,16 @@ fn plan_of_some(
     let rest = rest(alloc, layout, parts)?;
     let many = shape.items() / rest.shape.items();
     let place = points_place(parts);
-    let outer = front(alloc, &rest, place)?;
-    let inner = back(alloc, &rest, place)?;
-    let shifts = shifts(alloc, layout, parts, points, many)?;
+    let start = rest.offset;
+    let (before, after) = rest.shape.as_slice().split_at(place);
+    let outer = along(alloc, &rest, 0, before, start)?;
+    let inner = along(alloc, &rest, place, after, start)?;
+    let origin = Origin {
+        layout,
+        start,
+        lengths: points,
+    };
+    let shifts = shifts(alloc, origin, parts, many)?;
     Ok(Plan::try_new(alloc, shape, outer, shifts, inner)?)
 }
 

@@ -4,6 +4,7 @@ ghost use Rattle.fancy_index.specs.Clauses.{OutOfMemory, TooLarge, item_from, it
 
 use crate::gather_scatter::{fill, push_all, scatter};
 use crate::plan_rows::{PlanAxes, moved};
+use crate::singles::PackedItems;
 use arrays::{Owned, gather};
 use elem_descr::{Descr, MemoryOrder, Refusal};
 use raw_block::{BlockBuilder, RawBlock};
@@ -69,9 +70,11 @@ impl Plan {
             shifts,
             inner,
         };
-        if let Some(even) = axes.evened(alloc)? {
-            let axes = Box::new(alloc, even)?;
-            return Ok(Plan { shape, axes });
+        if let Some(step) = axes.even_step() {
+            if let Some(even) = axes.evened(alloc, step)? {
+                let axes = Box::new(alloc, even)?;
+                return Ok(Plan { shape, axes });
+            }
         }
         let axes = Box::new(alloc, axes)?;
         Ok(Plan { shape, axes })
@@ -174,7 +177,15 @@ impl Plan {
             block.new ≡ assigned self.now.offsets packed width items.now block.old }
         ensures len { length block.new ≡ length block.old }
     {
-        scatter(block, self.axes(), items, width);
+        scatter(
+            block,
+            self.axes(),
+            PackedItems {
+                items,
+                at: 0,
+                width,
+            },
+        );
     }
 
     /// Copies the items, of `width` bytes, of a layout in another block to the offsets, strictly in

@@ -46,6 +46,8 @@ impl Ranks<'_> {
 }
 
 impl<'a> PointList<'a> {
+    /// It is inlined, since a move of the points costs more.
+    #[inline(always)]
     fn try_new(
         alloc: Global,
         lengths: &[usize],

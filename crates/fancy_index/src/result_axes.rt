@@ -3,20 +3,11 @@ ghost use Rattle.std.specs.Prelude.{IfOk, OnOk, length, map, ◌++◌, ◌≡◌
 ghost use Rattle.fancy_index.specs.Clauses.{all_axes, are_points, axes_before, axes_of_part, other_axes, points_place, side_by_side, Gives, axis_of, pick_shown, shape_of, shown_part, gone_on};
 
 use crate::index_parts::IndexPart;
-use crate::other_axes::rest_picks;
 use elem_descr::Refusal;
 use shape_strides::Shape;
 use smallvec::SmallVec;
 use std::alloc::{AllocError, Global};
-use view_ops::{AxisPick, picked_lengths};
-
-/// The lengths of all axes except those of the points.
-fn other_axes(alloc: Global, parts: &[IndexPart<'_>]) -> Result<SmallVec<usize, 4>, AllocError>
-    ensures { IfOk result (λ v. v.items ≡ other_axes (map shown_part parts.now)) }
-{
-    let picks = rest_picks(alloc, parts)?;
-    picked_lengths(alloc, picks.as_slice())
-}
+use view_ops::AxisPick;
 
 /// The shape of the result, with the axes of the points at their place among the others, or its
 /// refusal.
@@ -27,11 +18,15 @@ pub(crate) fn shape_of_all(
 ) -> Result<Shape, Refusal>
     ensures { Gives (λ s. s) result (shape_of (all_axes points.now (map shown_part parts.now))) }
 {
-    let others = other_axes(alloc, parts)?;
-    let place = points_place(parts);
-    let mut lengths: SmallVec<usize, 4> = SmallVec::from_slice(alloc, &others.as_slice()[..place])?;
-    lengths.extend_from_slice(points)?;
-    lengths.extend_from_slice(&others.as_slice()[place..])?;
+    let mut lengths: SmallVec<usize, 4> = SmallVec::new(alloc);
+    for part in parts {
+        match part {
+            IndexPart::Axis(AxisPick::Along(run)) => lengths.push(run.count)?,
+            IndexPart::Axis(AxisPick::New) => lengths.push(1)?,
+            IndexPart::Axis(AxisPick::At(_)) | IndexPart::Points(_) | IndexPart::Between => {}
+        }
+    }
+    lengths.insert_from_slice(points_place(parts), points)?;
     Shape::try_new(alloc, lengths.as_slice())
 }
 
@@ -44,7 +39,7 @@ enum Stretch {
 }
 
 impl IndexPart<'_> {
-    pub(crate) fn is_points(&self) -> bool
+    fn is_points(&self) -> bool
         ensures { result ≡ are_points (shown_part self.now) }
     {
         matches!(self, IndexPart::Points(_))
@@ -74,42 +69,22 @@ fn gone_on(stretch: Stretch, is_points: bool) -> Option<Stretch>
     }
 }
 
-/// Whether all points are side by side.
-fn side_by_side(parts: &[IndexPart<'_>]) -> bool
-    ensures { result ≡ side_by_side (map shown_part parts.now) }
-{
-    let mut stretch = Stretch::Before;
-    for part in parts {
-        let Some(next) = gone_on(stretch, part.is_points()) else {
-            return false;
-        };
-        stretch = next;
-    }
-    true
-}
-
-/// How many other axes come before the first points.
-fn axes_before(parts: &[IndexPart<'_>]) -> usize
-    ensures { result ≡ axes_before (map shown_part parts.now) }
-{
-    let mut axes = 0;
-    for part in parts {
-        if part.is_points() {
-            return axes;
-        }
-        axes += part.axes();
-    }
-    axes
-}
-
 /// How many other axes come before those of the points. If the points are not side by side, their
 /// axes come first.
 pub(crate) fn points_place(parts: &[IndexPart<'_>]) -> usize
     ensures value { result ≡ points_place (map shown_part parts.now) }
     ensures within { result ≤ length (other_axes (map shown_part parts.now)) }
 {
-    if !side_by_side(parts) {
-        return 0;
+    let mut place = 0;
+    let mut stretch = Stretch::Before;
+    for part in parts {
+        let Some(next) = gone_on(stretch, part.is_points()) else {
+            return 0;
+        };
+        stretch = next;
+        if stretch == Stretch::Before {
+            place += part.axes();
+        }
     }
-    axes_before(parts)
+    place
 }

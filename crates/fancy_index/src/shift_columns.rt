@@ -1,48 +1,22 @@
 //! The offset of the first item with each point: how far each array moves it from the item with all
 //! points at 0.
-ghost use Rattle.std.specs.Prelude.{All, IfOk, OnOk, [], drop, get_or, length, map, take, true, ℕ, ◌++◌, ◌+◌, ◌<◌, ◌∷◌, ◌≡◌, ◌≤◌};
-ghost use Rattle.fancy_index.specs.Clauses.{IsShape, LieWithin, can_stretch, count, indexes, max_bytes, max_items, offsets, run_offsets, IsWithin, IsMoved, AreParts, IsReady, LeadInto, all_named, first_offset, is_named, AllCanGrow, AreSoMany, BeginAt, BeginsAt, CanAdd, CanGrow, HaveAdded, HaveAllGrown, HaveGrown, HaveGrownFrom, number_along, number_through, point_number, start_of, starts, stretched_ranks, strides_along};
+ghost use Rattle.std.specs.Prelude.{All, IfOk, OnOk, [], drop, get_or, length, map, pos, take, true, ℕ, ◌+◌, ◌<◌, ◌∷◌, ◌≡◌, ◌≤◌};
+ghost use Rattle.fancy_index.specs.Clauses.{IsShape, address, LieWithin, can_stretch, count, indexes, max_bytes, max_items, offsets, run_offsets, IsWithin, IsMoved, AreParts, IsReady, LeadInto, all_named, first_offset, is_named, AllCanGrow, AreSoMany, CanGrowAlong, IsOrigin, BeginAt, BeginsAt, CanAdd, CanGrow, HaveAdded, HaveAllGrown, HaveGrown, HaveGrownFrom, number_along, number_through, point_number, start_of, starts, stretched_ranks, strides_along};
 
 use crate::index_parts::IndexPart;
 use crate::masks::lead_through;
 use broadcasting::stretched_to;
 use elem_descr::Refusal;
 use shape_strides::{Layout, Run, Runs, Shape, Strides};
-use smallvec::SmallVec;
 use std::alloc::{AllocError, Global};
 use view_ops::AxisPick;
 
-/// The item of a layout with all points at 0, and the common lengths of the points.
+/// A layout, the offset of its first item with all points at 0, and the common lengths of the points.
 #[derive(Clone, Copy)]
-struct Origin<'a> {
-    layout: &'a Layout,
-    start: usize,
-    lengths: &'a [usize],
-}
-
-fn push_origin(numbers: &mut SmallVec<usize, 4>, axes: &[usize]) -> Result<(), AllocError>
-    ensures { OnOk result (numbers.new.items ≡ numbers.old.items ++ map (λ _. 0) axes.now) }
-{
-    for _ in axes {
-        numbers.push(0)?;
-    }
-    Ok(())
-}
-
-/// The index of the first item with all points at 0.
-fn starts(alloc: Global, parts: &[IndexPart<'_>]) -> Result<SmallVec<usize, 4>, AllocError>
-    ensures { IfOk result (λ v. v.items ≡ starts parts.now) }
-{
-    let mut numbers = SmallVec::new(alloc);
-    for part in parts {
-        match part {
-            IndexPart::Axis(AxisPick::At(number)) => numbers.push(*number)?,
-            IndexPart::Axis(AxisPick::Along(run)) => numbers.push(run.first)?,
-            IndexPart::Points(points) => push_origin(&mut numbers, points.axes.as_slice())?,
-            IndexPart::Axis(AxisPick::New) | IndexPart::Between => {}
-        }
-    }
-    Ok(numbers)
+pub(crate) struct Origin<'a> {
+    pub layout: &'a Layout,
+    pub start: usize,
+    pub lengths: &'a [usize],
 }
 
 /// How many axes a part takes.
@@ -66,7 +40,7 @@ fn strides_from(strides: &[isize], axis: usize, axes: usize) -> &[isize]
 
 /// The items along some axes, starting with one of them. On all other axes the index is that of the
 /// start.
-fn along(
+pub(crate) fn along(
     alloc: Global,
     layout: &Layout,
     axis: usize,
@@ -100,9 +74,7 @@ fn add_part(
     part: &mut IndexPart<'_>,
     shifts: &mut Vec<u32>,
 ) -> Result<(), Refusal>
-    requires start { origin.start ≤ max_bytes }
-    requires shape { IsShape origin.lengths.now }
-    requires some { 0 < count origin.lengths.now }
+    requires origin { IsOrigin origin }
     requires ready { IsReady origin.lengths.now part.old }
     requires begins { BeginsAt origin.layout.now axis origin.start part.old }
     requires many { AreSoMany (count origin.lengths.now) shifts.old.items }
@@ -122,9 +94,7 @@ fn add_part(
             )?;
             let mut offsets = points.ranks.take(alloc)?;
             lead_through(&along, offsets.as_mut_slice());
-            let lengths = points.lengths.as_slice();
-            let points = PointOffsets { lengths, offsets };
-            add_points(alloc, shifts, origin.start as u32, points, origin.lengths)?;
+            add_points(alloc, origin, points.lengths.as_slice(), offsets, shifts)?;
         }
         _ => {}
     }
@@ -135,29 +105,21 @@ fn add_part(
 /// of a number. The ranks of only one part are stored at a time.
 pub(crate) fn shifts(
     alloc: Global,
-    layout: &Layout,
+    origin: Origin<'_>,
     parts: &mut [IndexPart<'_>],
-    lengths: &[usize],
     many: usize,
 ) -> Result<Vec<u32>, Refusal>
-    requires are { AreParts layout.now.shape parts.old }
-    requires ready { All (IsReady lengths.now) parts.old }
-    requires leads { LeadInto layout.now lengths.now parts.old }
-    requires shape { IsShape lengths.now }
-    requires some { 0 < count lengths.now }
-    requires many { many ≡ count lengths.now }
-    ensures ok { IfOk result (λ v.
-        v.items ≡ map (first_offset layout.now parts.old) (indexes lengths.now)) }
+    requires origin { IsOrigin origin }
+    requires start { pos origin.start ≡ address origin.layout.now (starts parts.old) }
+    requires are { AreParts origin.layout.now.shape parts.old }
+    requires ready { All (IsReady origin.lengths.now) parts.old }
+    requires leads { LeadInto origin.layout.now origin.lengths.now parts.old }
+    requires many { many ≡ count origin.lengths.now }
+    ensures ok { let first = first_offset origin.entry.layout.now parts.old in
+        IfOk result (λ v. v.items ≡ map first (indexes origin.entry.lengths.now)) }
     ensures within { IsWithin (all_named parts.old) result }
 {
-    let _lengths = layout.shape.as_slice();
-    let index = starts(alloc, parts)?;
-    let start = layout.at(index.as_slice());
-    let origin = Origin {
-        layout,
-        start,
-        lengths,
-    };
+    let _lengths = origin.layout.shape.as_slice();
     let mut shifts = Vec::new(alloc);
     let mut axis = 0;
     for part in parts.iter_mut() {
@@ -165,15 +127,8 @@ pub(crate) fn shifts(
         add_part(alloc, origin, axis, part, &mut shifts)?;
         axis += axes;
     }
-    begin(alloc, &mut shifts, start as u32, many)?;
+    begin(alloc, &mut shifts, origin.start as u32, many)?;
     Ok(shifts)
-}
-
-/// Points with a shape of their own: for each of them, the offset of its item.
-#[derive(Drop)]
-pub(crate) struct PointOffsets<'a> {
-    pub lengths: &'a [usize],
-    pub offsets: Vec<u32>,
 }
 
 /// Adds to each shift the distance of its offset from the start.
@@ -191,13 +146,7 @@ fn grow(shifts: &mut [u32], start: u32, offsets: &[u32])
 /// Adds it to as many shifts as a run of places has, starting with one of them.
 #[inline(always)]
 fn grow_each(shifts: &mut [u32], at: usize, start: u32, offsets: &[u32], places: Run)
-    requires start { start ≤ max_bytes }
-    requires few { places.count ≤ max_items }
-    requires lies { LieWithin (places.count ∷ []) (places.step ∷ []) places.offset max_bytes 1 }
-    requires many { at + places.count ≤ length shifts.old }
-    requires places { All (λ place. place < length offsets.now) (run_offsets places) }
-    requires can { (k : ℕ) → at ≤ k → k < at + places.count
-        → IsMoved start (get_or shifts.old k 0) (number_along offsets.now places at k) }
+    requires { CanGrowAlong at start offsets.now places shifts.old }
     ensures { let to = at + places.count in
         HaveGrownFrom at start (number_along offsets.now places at) shifts.old shifts.new to }
 {
@@ -207,36 +156,15 @@ fn grow_each(shifts: &mut [u32], at: usize, start: u32, offsets: &[u32], places:
     }
 }
 
-/// Adds the distance of one offset from the start to `count` shifts, starting with one of them.
-fn grow_equally(shifts: &mut [u32], at: usize, start: u32, offset: u32, count: usize)
-    requires start { start ≤ max_bytes }
-    requires many { at + count ≤ length shifts.old }
-    requires can { (k : ℕ) → at ≤ k → k < at + count
-        → IsMoved start (get_or shifts.old k 0) offset }
-    ensures { HaveGrownFrom at start (λ _. offset) shifts.old shifts.new (at + count) }
-{
-    for k in 0..count {
-        shifts[at + k] = shifts[at + k] + offset - start;
-    }
-}
-
 /// Adds it to as many shifts as a run of places has, with a loop of its own for adjacent places and
 /// for a single place.
 fn grow_run(shifts: &mut [u32], at: usize, start: u32, offsets: &[u32], places: Run)
-    requires start { start ≤ max_bytes }
-    requires few { places.count ≤ max_items }
-    requires lies { LieWithin (places.count ∷ []) (places.step ∷ []) places.offset max_bytes 1 }
-    requires many { at + places.count ≤ length shifts.old }
-    requires places { All (λ place. place < length offsets.now) (run_offsets places) }
-    requires can { (k : ℕ) → at ≤ k → k < at + places.count
-        → IsMoved start (get_or shifts.old k 0) (number_along offsets.now places at k) }
+    requires { CanGrowAlong at start offsets.now places shifts.old }
     ensures { let to = at + places.count in
         HaveGrownFrom at start (number_along offsets.now places at) shifts.old shifts.new to }
 {
     match places.step {
-        0 if places.count > 0 => {
-            grow_equally(shifts, at, start, offsets[places.offset], places.count);
-        }
+        0 => grow_each(shifts, at, start, offsets, Run { step: 0, ..places }),
         1 => grow_each(shifts, at, start, offsets, Run { step: 1, ..places }),
         _ => grow_each(shifts, at, start, offsets, places),
     }
@@ -277,12 +205,7 @@ fn stretched_places(
 }
 
 /// Makes `many` shifts, all at the start, if there are none so far.
-pub(crate) fn begin(
-    alloc: Global,
-    shifts: &mut Vec<u32>,
-    start: u32,
-    many: usize,
-) -> Result<(), AllocError>
+fn begin(alloc: Global, shifts: &mut Vec<u32>, start: u32, many: usize) -> Result<(), AllocError>
     requires { AreSoMany many shifts.old.items }
     ensures many { OnOk result (length shifts.new.items ≡ many) }
     ensures each { OnOk result ((k : ℕ) → k < many
@@ -294,42 +217,37 @@ pub(crate) fn begin(
     Ok(())
 }
 
-/// Adds to each shift the distance of its point's offset from the start. If there are no shifts so
-/// far, the offsets become the shifts, if there is one for each.
-pub(crate) fn add_points(
+/// Adds to each shift the distance of its point's offset from the start; the points have a shape of
+/// their own. If there are no shifts so far, the offsets become the shifts, if there is one for each.
+fn add_points(
     alloc: Global,
+    origin: Origin<'_>,
+    own: &[usize],
+    offsets: Vec<u32>,
     shifts: &mut Vec<u32>,
-    start: u32,
-    points: PointOffsets<'_>,
-    lengths: &[usize],
 ) -> Result<(), AllocError>
-    requires start { start ≤ max_bytes }
-    requires shape { IsShape lengths.now }
-    requires some { 0 < count lengths.now }
-    requires points { length points.offsets.items ≡ count points.lengths.now }
-    requires fit { can_stretch points.lengths.now lengths.now ≡ true }
-    requires many { AreSoMany (count lengths.now) shifts.old.items }
-    requires can { let number = point_number lengths.now points.lengths.now points.offsets.items in
-        CanGrow start (count lengths.now) number shifts.old.items }
-    ensures { let own = points.entry.lengths.now in
-        let number = point_number lengths.now own points.entry.offsets.items in
-        OnOk result (HaveGrown start (count lengths.now) number shifts.old.items shifts.new.items) }
+    requires origin { IsOrigin origin }
+    requires points { length offsets.items ≡ count own.now }
+    requires fit { can_stretch own.now origin.lengths.now ≡ true }
+    requires many { AreSoMany (count origin.lengths.now) shifts.old.items }
+    requires can { let number = point_number origin.lengths.now own.now offsets.items in
+        CanGrow origin.start (count origin.lengths.now) number shifts.old.items }
+    ensures { let lengths = origin.entry.lengths.now in
+        let number = point_number lengths own.now offsets.items in
+        let old = shifts.old.items in
+        OnOk result (HaveGrown origin.entry.start (count lengths) number old shifts.new.items) }
 {
-    if points.lengths == lengths {
+    let start = origin.start as u32;
+    if own == origin.lengths {
         if shifts.is_empty() {
-            *shifts = points.offsets;
+            *shifts = offsets;
         } else {
-            grow(shifts.as_mut_slice(), start, points.offsets.as_slice());
+            grow(shifts.as_mut_slice(), start, offsets.as_slice());
         }
         return Ok(());
     }
-    let places = stretched_places(alloc, points.lengths, lengths)?;
+    let places = stretched_places(alloc, own, origin.lengths)?;
     begin(alloc, shifts, start, places.shape.items())?;
-    grow_along(
-        shifts.as_mut_slice(),
-        start,
-        points.offsets.as_slice(),
-        &places,
-    );
+    grow_along(shifts.as_mut_slice(), start, offsets.as_slice(), &places);
     Ok(())
 }

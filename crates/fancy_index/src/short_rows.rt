@@ -27,10 +27,8 @@ pub(crate) struct ShortRows<'a> {
 }
 
 impl<'a> ShortRows<'a> {
-    ghost use Rattle.std.specs.Prelude.{◌+◌, ◌*◌, ◌<◌, ◌++◌, length, IfSome};
-    ghost use Rattle.fancy_index.specs.Words.{assigned, joined_at, row_offsets};
-    ghost use Rattle.fancy_index.specs.Plans.{put_each};
-    ghost use Rattle.fancy_index.specs.inside.Kept.{FitAt, first_offsets, offsets_from, row_at, short_offsets};
+    ghost use Rattle.std.specs.Prelude.{◌<◌, length, IfSome};
+    ghost use Rattle.fancy_index.specs.inside.Kept.{CanPush, CanPut, FitAt, HaveFilled, HavePushed, HavePut, first_offsets, offsets_from, row_at, short_offsets};
 
     /// The items of a plan, of `width` bytes, as short rows, if they are.
     pub(crate) fn of(axes: &'a PlanAxes, width: usize) -> Option<ShortRows<'a>>
@@ -65,10 +63,8 @@ impl<'a> ShortRows<'a> {
     /// and store.
     #[inline(always)]
     fn push_rows(self, items: BlockBuilder, block: &RawBlock, width: usize) -> BlockBuilder
-        requires inside { FitAt (short_offsets self) width block.now }
-        requires room { length (short_offsets self) * width ≤ items.1 }
-        ensures bytes { result.0 ≡ items.0 ++ joined_at (short_offsets self.entry) width block.now }
-        ensures left { length (short_offsets self.entry) * width + result.1 ≡ items.1 }
+        requires { CanPush (short_offsets self) width block.now items }
+        ensures { HavePushed (short_offsets self.entry) width block.now items result }
     {
         let mut items = items;
         for k in 0..self.places.count {
@@ -79,10 +75,8 @@ impl<'a> ShortRows<'a> {
 
     /// Appends all items, of `width` bytes.
     pub(crate) fn push(self, items: BlockBuilder, block: &RawBlock, width: usize) -> BlockBuilder
-        requires inside { FitAt (short_offsets self) width block.now }
-        requires room { length (short_offsets self) * width ≤ items.1 }
-        ensures bytes { result.0 ≡ items.0 ++ joined_at (short_offsets self.entry) width block.now }
-        ensures left { length (short_offsets self.entry) * width + result.1 ≡ items.1 }
+        requires { CanPush (short_offsets self) width block.now items }
+        ensures { HavePushed (short_offsets self.entry) width block.now items result }
     {
         match width {
             1 => self.push_rows(items, block, 1),
@@ -93,36 +87,31 @@ impl<'a> ShortRows<'a> {
         }
     }
 
-    /// Copies the adjacent items, of `width` bytes, in `items` to all places. If the compiler knows
-    /// the width, each is a single load and store.
+    /// Copies the items of a source to all places. Returns where the copied items end. If the
+    /// compiler knows the width, each is a single load and store.
     #[inline(always)]
-    fn scatter_rows(self, block: &mut RawBlock, items: &RawBlock, width: usize)
-        requires inside { FitAt (short_offsets self) width block.old }
-        requires room { length (short_offsets self) * width ≤ length items.now }
-        ensures written { let to = short_offsets self.entry in
-            block.new ≡ assigned to (row_offsets 0 width (length to)) width items.now block.old }
-        ensures len { length block.new ≡ length block.old }
+    fn scatter_rows(self, block: &mut RawBlock, source: PackedItems<'_>) -> usize
+        requires { CanPut (short_offsets self) source block.old }
+        ensures { HavePut (short_offsets self.entry) source.entry block.old block.new result }
     {
-        let mut at = 0;
+        let mut at = source.at;
         for k in 0..self.places.count {
-            at = scatter_each(block, self.row(k), PackedItems { items, at, width });
+            at = scatter_each(block, self.row(k), PackedItems { at, ..source });
         }
+        at
     }
 
-    /// Copies the adjacent items, of `width` bytes, in `items` to all places.
-    pub(crate) fn scatter(self, block: &mut RawBlock, items: &RawBlock, width: usize)
-        requires inside { FitAt (short_offsets self) width block.old }
-        requires room { length (short_offsets self) * width ≤ length items.now }
-        ensures written { let to = short_offsets self.entry in
-            block.new ≡ assigned to (row_offsets 0 width (length to)) width items.now block.old }
-        ensures len { length block.new ≡ length block.old }
+    /// Copies the items of a source to all places.
+    pub(crate) fn scatter(self, block: &mut RawBlock, source: PackedItems<'_>) -> usize
+        requires { CanPut (short_offsets self) source block.old }
+        ensures { HavePut (short_offsets self.entry) source.entry block.old block.new result }
     {
-        match width {
-            1 => self.scatter_rows(block, items, 1),
-            2 => self.scatter_rows(block, items, 2),
-            4 => self.scatter_rows(block, items, 4),
-            8 => self.scatter_rows(block, items, 8),
-            _ => self.scatter_rows(block, items, width),
+        match source.width {
+            1 => self.scatter_rows(block, PackedItems { width: 1, ..source }),
+            2 => self.scatter_rows(block, PackedItems { width: 2, ..source }),
+            4 => self.scatter_rows(block, PackedItems { width: 4, ..source }),
+            8 => self.scatter_rows(block, PackedItems { width: 8, ..source }),
+            _ => self.scatter_rows(block, source),
         }
     }
 
@@ -130,8 +119,7 @@ impl<'a> ShortRows<'a> {
     #[inline(always)]
     fn fill_rows(self, block: &mut RawBlock, item: &[u8])
         requires { FitAt (short_offsets self) (length item.now) block.old }
-        ensures written { block.new ≡ put_each (short_offsets self.entry) item.now block.old }
-        ensures len { length block.new ≡ length block.old }
+        ensures { HaveFilled (short_offsets self.entry) item.now block.old block.new }
     {
         for k in 0..self.places.count {
             fill_each(block, self.row(k), item);
@@ -141,8 +129,7 @@ impl<'a> ShortRows<'a> {
     /// Writes the item to all places.
     pub(crate) fn fill(self, block: &mut RawBlock, item: &[u8])
         requires { FitAt (short_offsets self) (length item.now) block.old }
-        ensures written { block.new ≡ put_each (short_offsets self.entry) item.now block.old }
-        ensures len { length block.new ≡ length block.old }
+        ensures { HaveFilled (short_offsets self.entry) item.now block.old block.new }
     {
         match *item {
             [a] => self.fill_rows(block, &[a]),

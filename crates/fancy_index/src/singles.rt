@@ -1,6 +1,6 @@
 //! Single items at shifted places: gathered, copied and filled, one after the other.
-ghost use Rattle.std.specs.Prelude.{◌≡◌, ◌+◌, ◌*◌, ◌≤◌, ◌++◌, length, map, All};
-ghost use Rattle.fancy_index.specs.Clauses.{item_at, put, joined_at, put_each, first_offsets, put_packed, end_of, FitAt};
+ghost use Rattle.std.specs.Prelude.{◌≡◌, ◌+◌, ◌≤◌, ◌++◌, length};
+ghost use Rattle.fancy_index.specs.Clauses.{CanPush, CanPut, FitAt, HaveFilled, HavePushed, HavePut, first_offsets, item_at, put};
 
 use crate::plan_rows::{Shifted, moved};
 use arrays::{copy_run, packed_run, push_run};
@@ -64,10 +64,8 @@ pub(crate) fn push_each(
     rows: Shifted<'_>,
     width: usize,
 ) -> BlockBuilder
-    requires inside { All (λ offset. offset + width ≤ length block.now) (first_offsets rows) }
-    requires room { length (first_offsets rows) * width ≤ items.1 }
-    ensures bytes { result.0 ≡ items.0 ++ joined_at (first_offsets rows.entry) width block.now }
-    ensures left { length (first_offsets rows.entry) * width + result.1 ≡ items.1 }
+    requires { CanPush (first_offsets rows) width block.now items }
+    ensures { HavePushed (first_offsets rows.entry) width block.now items result }
 {
     let base = rows.inner.offset;
     let bytes = block.bytes();
@@ -89,10 +87,8 @@ fn push_stretch(
 ) -> BlockBuilder
     requires some { 1 ≤ length rows.shifts.now }
     requires few { length rows.shifts.now ≤ 128 }
-    requires inside { All (λ offset. offset + width ≤ length block.now) (first_offsets rows) }
-    requires room { length (first_offsets rows) * width ≤ items.1 }
-    ensures bytes { result.0 ≡ items.0 ++ joined_at (first_offsets rows.entry) width block.now }
-    ensures left { length (first_offsets rows.entry) * width + result.1 ≡ items.1 }
+    requires can { CanPush (first_offsets rows) width block.now items }
+    ensures { HavePushed (first_offsets rows.entry) width block.now items result }
 {
     match (rows.as_run(width), width) {
         (Some(run), _) => {
@@ -116,10 +112,8 @@ pub(crate) fn push_singles(
     rows: Shifted<'_>,
     width: usize,
 ) -> BlockBuilder
-    requires inside { All (λ offset. offset + width ≤ length block.now) (first_offsets rows) }
-    requires room { length (first_offsets rows) * width ≤ items.1 }
-    ensures bytes { result.0 ≡ items.0 ++ joined_at (first_offsets rows.entry) width block.now }
-    ensures left { length (first_offsets rows.entry) * width + result.1 ≡ items.1 }
+    requires { CanPush (first_offsets rows) width block.now items }
+    ensures { HavePushed (first_offsets rows.entry) width block.now items result }
 {
     let mut items = items;
     let mut from = 0;
@@ -147,11 +141,8 @@ pub(crate) fn scatter_each(
     rows: Shifted<'_>,
     source: PackedItems<'_>,
 ) -> usize
-    requires inside { FitAt (first_offsets rows) source.width block.old }
-    requires room { end_of source (length (first_offsets rows)) ≤ length source.items.now }
-    ensures written { block.new ≡ put_packed (first_offsets rows.entry) source.entry block.old }
-    ensures len { length block.new ≡ length block.old }
-    ensures end { result ≡ end_of source.entry (length (first_offsets rows.entry)) }
+    requires { CanPut (first_offsets rows) source block.old }
+    ensures { HavePut (first_offsets rows.entry) source.entry block.old block.new result }
 {
     let PackedItems { items, at, width } = source;
     let _len = items.len();
@@ -171,11 +162,8 @@ pub(crate) fn scatter_each(
 fn scatter_stretch(block: &mut RawBlock, rows: Shifted<'_>, source: PackedItems<'_>) -> usize
     requires some { 1 ≤ length rows.shifts.now }
     requires few { length rows.shifts.now ≤ 128 }
-    requires inside { FitAt (first_offsets rows) source.width block.old }
-    requires room { end_of source (length (first_offsets rows)) ≤ length source.items.now }
-    ensures written { block.new ≡ put_packed (first_offsets rows.entry) source.entry block.old }
-    ensures len { length block.new ≡ length block.old }
-    ensures end { result ≡ end_of source.entry (length (first_offsets rows.entry)) }
+    requires can { CanPut (first_offsets rows) source block.old }
+    ensures { HavePut (first_offsets rows.entry) source.entry block.old block.new result }
 {
     let PackedItems { items, at, width } = source;
     let len = items.len();
@@ -199,11 +187,8 @@ pub(crate) fn scatter_singles(
     rows: Shifted<'_>,
     source: PackedItems<'_>,
 ) -> usize
-    requires inside { FitAt (first_offsets rows) source.width block.old }
-    requires room { end_of source (length (first_offsets rows)) ≤ length source.items.now }
-    ensures written { block.new ≡ put_packed (first_offsets rows.entry) source.entry block.old }
-    ensures len { length block.new ≡ length block.old }
-    ensures end { result ≡ end_of source.entry (length (first_offsets rows.entry)) }
+    requires { CanPut (first_offsets rows) source block.old }
+    ensures { HavePut (first_offsets rows.entry) source.entry block.old block.new result }
 {
     let mut at = source.at;
     let mut from = 0;
@@ -219,9 +204,8 @@ pub(crate) fn scatter_singles(
 /// single store.
 #[inline(always)]
 pub(crate) fn fill_each(block: &mut RawBlock, rows: Shifted<'_>, item: &[u8])
-    requires { All (λ offset. offset + length item.now ≤ length block.old) (first_offsets rows) }
-    ensures written { block.new ≡ put_each (first_offsets rows.entry) item.now block.old }
-    ensures len { length block.new ≡ length block.old }
+    requires { FitAt (first_offsets rows) (length item.now) block.old }
+    ensures { HaveFilled (first_offsets rows.entry) item.now block.old block.new }
 {
     let base = rows.inner.offset;
     for shift in rows.shifts {
@@ -231,9 +215,8 @@ pub(crate) fn fill_each(block: &mut RawBlock, rows: Shifted<'_>, item: &[u8])
 
 /// Writes the item at the shifted places, with a loop of its own for each common width.
 pub(crate) fn fill_singles(block: &mut RawBlock, rows: Shifted<'_>, item: &[u8])
-    requires { All (λ offset. offset + length item.now ≤ length block.old) (first_offsets rows) }
-    ensures written { block.new ≡ put_each (first_offsets rows.entry) item.now block.old }
-    ensures len { length block.new ≡ length block.old }
+    requires { FitAt (first_offsets rows) (length item.now) block.old }
+    ensures { HaveFilled (first_offsets rows.entry) item.now block.old block.new }
 {
     match *item {
         [a] => fill_each(block, rows, &[a]),

@@ -1,11 +1,12 @@
 -- The offsets of the items of a plan.
-use Rattle.std.specs.Prelude.{◌≡◌, ◌+◌, ◌*◌, ◌<◌, ◌≤◌, ℕ, List, map, length, get_or, All}
+use Rattle.std.specs.Prelude.{◌≡◌, ◌+◌, ◌++◌, ◌*◌, ◌<◌, ◌≤◌, ℕ, List, map, length, get_or, All}
 use Rattle.fancy_index.specs.Words.{assigned, joined_at, row_offsets, count, offsets, max_items, EachWithin, Run, run_offsets}
 use Rattle.fancy_index.specs.declared.plan_rows.MovedLayout.{MovedLayout}
 use Rattle.fancy_index.specs.declared.plan_rows.PlanAxes.{PlanAxes}
 use Rattle.fancy_index.specs.declared.plan_rows.Shifted.{Shifted}
 use Rattle.fancy_index.specs.declared.short_rows.ShortRows.{ShortRows}
 use Rattle.fancy_index.specs.declared.singles.PackedItems.{PackedItems}
+use Rattle.fancy_index.specs.Plans.{put_each}
 use Rattle.fancy_index.specs.inside.Moved.{moved_offset, shifted_all, moved_all, laid_offsets}
 
 abbrev pub moved_offsets : MovedLayout → List ℕ
@@ -39,13 +40,42 @@ row_at rows k = let axes = rows.axes.now in shifted_all axes.inner.offset axes.s
 abbrev pub end_of : PackedItems → ℕ → ℕ
 end_of source n = source.at + n * source.width
 
+-- Items of `width` bytes at these offsets lie within the block.
+abbrev pub FitAt : List ℕ → ℕ → List ℕ → Type 0
+FitAt offsets width block = All (λ offset. offset + width ≤ length block) offsets
+
+-- The items of `width` bytes at these offsets of a block can be appended, or are appended, to the bytes in `items`, which
+-- are followed by room for some more.
+pub record CanPush (offsets : List ℕ) (width : ℕ) (block : List ℕ) (items : List ℕ × ℕ) : Type 0 where
+  pub inside : FitAt offsets width block
+  pub room : length offsets * width ≤ items.1
+
+pub record HavePushed (offsets : List ℕ) (width : ℕ) (block : List ℕ) (old new : List ℕ × ℕ) : Type 0 where
+  pub bytes : new.0 ≡ old.0 ++ joined_at offsets width block
+  pub left : length offsets * width + new.1 ≡ old.1
+
+-- Items that are adjacent from `at` on can be copied to these offsets of a block.
+pub record CanScatter (offsets : List ℕ) (at width : ℕ) (items block : List ℕ) : Type 0 where
+  pub inside : FitAt offsets width block
+  pub room : at + length offsets * width ≤ length items
+
+-- the items of a source can be copied, or are copied, to these offsets of a block; the copied items end at `to`
+abbrev pub CanPut : List ℕ → PackedItems → List ℕ → Type 0
+CanPut offsets source block = CanScatter offsets source.at source.width source.items.now block
+
 -- a block, with the items of a source copied to these offsets
 abbrev pub put_packed : List ℕ → PackedItems → List ℕ → List ℕ
 put_packed to source block = assigned to (row_offsets source.at source.width (length to)) source.width source.items.now block
 
--- Items of `width` bytes at these offsets lie within the block.
-abbrev pub FitAt : List ℕ → ℕ → List ℕ → Type 0
-FitAt offsets width block = All (λ offset. offset + width ≤ length block) offsets
+pub record HavePut (offsets : List ℕ) (source : PackedItems) (old new : List ℕ) (to : ℕ) : Type 0 where
+  pub written : new ≡ put_packed offsets source old
+  pub len : length new ≡ length old
+  pub end : to ≡ end_of source (length offsets)
+
+-- the item is written at each of these offsets of a block
+pub record HaveFilled (offsets item old new : List ℕ) : Type 0 where
+  pub written : new ≡ put_each offsets item old
+  pub len : length new ≡ length old
 
 -- a run whose items have these offsets
 pub record IsRunOf (offsets : List ℕ) (run : Run) : Type 0 where

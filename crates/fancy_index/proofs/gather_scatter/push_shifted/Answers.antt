@@ -1,35 +1,31 @@
-use Rattle.std.proofs.Common.{ap, arith}
+use Rattle.std.proofs.Common.{◌++◌, length, sym, ap, ◌∙◌, arith}
 use Rattle.fancy_index.proofs.Words.{drop_all, offsets, shifted_all}
 use Rattle.fancy_index.proofs.Passes.{push_front, pushed_front, pushed_all, split-shifts}
 use Rattle.fancy_index.proofs.gather_scatter.push_shifted.Goals as goal
 
 -- Adjacent items have the same number of bytes one by one and together.
-pub push_singles-requires-clause-room : goal.push_singles-requires-clause-room
-push_singles-requires-clause-room c = omega (arith, c.in-Some.ensures.size, c.requires.room)
+pub push_singles-requires : goal.push_singles-requires
+push_singles-requires c = record { inside = c.in-Some.ensures.inside (length c.args.block.now) c.requires.inside; room = omega (arith, c.in-Some.ensures.size, c.requires.room) }
 
-pub returns-in-Some-clause-left : goal.returns-in-Some-clause-left
-returns-in-Some-clause-left c = omega (arith, c.in-Some.ensures.size, c.push_singles.ensures.left)
+pub returns-in-Some : goal.returns-in-Some
+returns-in-Some c = record {
+  bytes = c.push_singles.ensures.bytes ∙ ap (λ l. c.args.items.0 ++ l) (sym (c.in-Some.ensures.joined c.args.block.now));
+  left = omega (arith, c.in-Some.ensures.size, c.push_singles.ensures.left);
+}
 
-pub push_moved-items-requires-clause-inside : goal.push_moved-items-requires-clause-inside
-push_moved-items-requires-clause-inside c =
+pub push_moved-items-requires : goal.push_moved-items-requires
+push_moved-items-requires c =
     let rows = c.args.rows in
     let split = split-shifts rows.inner.now.offset (offsets rows.inner.now) rows.place rows.shifts.now c.loop-shift.shift-index c.moved-start.result c.loop-shift-test.true c.moved-start.ensures.value in
-    (push_front _ _ _ _ _ _ _ _ split c.loop-shift.invariant).inside
-
-pub push_moved-items-requires-clause-room : goal.push_moved-items-requires-clause-room
-push_moved-items-requires-clause-room c =
-    let rows = c.args.rows in
-    let split = split-shifts rows.inner.now.offset (offsets rows.inner.now) rows.place rows.shifts.now c.loop-shift.shift-index c.moved-start.result c.loop-shift-test.true c.moved-start.ensures.value in
-    (push_front _ _ _ _ _ _ _ _ split c.loop-shift.invariant).room
+    push_front _ _ _ _ _ _ _ _ split c.loop-shift.invariant
 
 pub loop-shift-preserved : goal.loop-shift-preserved
 loop-shift-preserved c =
     let rows = c.args.rows in
     let split = split-shifts rows.inner.now.offset (offsets rows.inner.now) rows.place rows.shifts.now c.loop-shift.shift-index c.moved-start.result c.loop-shift-test.true c.moved-start.ensures.value in
-    pushed_front _ _ _ _ _ _ _ _ _ split c.push_moved-items.ensures.bytes c.push_moved-items.ensures.left c.loop-shift.invariant
+    pushed_front _ _ _ _ _ _ _ _ _ split c.push_moved-items.ensures c.loop-shift.invariant
 
 pub returns : goal.returns
 returns c =
     let rows = c.args.rows in
-    let done = pushed_all _ _ _ _ _ _ (ap (λ l. shifted_all rows.inner.now.offset l (offsets rows.inner.now) rows.place) (drop_all c.loop-shift.shift-index rows.shifts.now (omega (arith, c.loop-shift-test.false)))) c.loop-shift.invariant in
-    record { bytes = done.0; left = done.1 }
+    pushed_all _ _ _ _ _ _ (ap (λ l. shifted_all rows.inner.now.offset l (offsets rows.inner.now) rows.place) (drop_all c.loop-shift.shift-index rows.shifts.now (omega (arith, c.loop-shift-test.false)))) c.loop-shift.invariant

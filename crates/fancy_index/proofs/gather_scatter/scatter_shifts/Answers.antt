@@ -3,19 +3,12 @@ use Rattle.fancy_index.proofs.Words.{offsets, moved_offset, shifted_all}
 use Rattle.fancy_index.proofs.Passes.{scatter_front, scattered_front, split-shifts}
 use Rattle.fancy_index.proofs.gather_scatter.scatter_shifts.Goals as goal
 
-pub scatter_moved-at-requires-clause-inside : goal.scatter_moved-at-requires-clause-inside
-scatter_moved-at-requires-clause-inside c =
+pub scatter_moved-at-requires : goal.scatter_moved-at-requires
+scatter_moved-at-requires c =
     let base = c.args.rows.inner.now.offset in
     let inner = offsets c.args.rows.inner.now in
     let split = split-shifts base inner c.args.rows.place c.args.rows.shifts.now c.loop-shift.shift-index c.moved-start.result c.loop-shift-test.true c.moved-start.ensures.value in
-    (scatter_front _ (map (moved_offset base c.moved-start.result) inner) (shifted_all base (drop (c.loop-shift.shift-index + 1) c.args.rows.shifts.now) inner c.args.rows.place) c.loop-shift.at c.args.source.width _ c.args.source.items.now c.loop-shift.block _ split c.loop-shift.invariant.pass).inside
-
-pub scatter_moved-at-requires-clause-room : goal.scatter_moved-at-requires-clause-room
-scatter_moved-at-requires-clause-room c =
-    let base = c.args.rows.inner.now.offset in
-    let inner = offsets c.args.rows.inner.now in
-    let split = split-shifts base inner c.args.rows.place c.args.rows.shifts.now c.loop-shift.shift-index c.moved-start.result c.loop-shift-test.true c.moved-start.ensures.value in
-    (scatter_front _ (map (moved_offset base c.moved-start.result) inner) (shifted_all base (drop (c.loop-shift.shift-index + 1) c.args.rows.shifts.now) inner c.args.rows.place) c.loop-shift.at c.args.source.width _ c.args.source.items.now c.loop-shift.block _ split c.loop-shift.invariant.pass).room
+    scatter_front _ (map (moved_offset base c.moved-start.result) inner) (shifted_all base (drop (c.loop-shift.shift-index + 1) c.args.rows.shifts.now) inner c.args.rows.place) c.loop-shift.at c.args.source.width _ c.args.source.items.now c.loop-shift.block _ split c.loop-shift.invariant.pass
 
 pub loop-shift-preserved : goal.loop-shift-preserved
 loop-shift-preserved c =

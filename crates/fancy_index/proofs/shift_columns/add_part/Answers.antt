@@ -24,8 +24,8 @@ led-is c own is k low =
 
 pub add_points-requires-clause-can : goal.add_points-requires-clause-can
 add_points-requires-clause-can c = λ k low.
-    subst (IsMoved c.args.origin.start (get_or c.args.shifts.now.items k c.args.origin.start)) (sym (led-is (goal.at.add_points-requires-clause-can c).After-lead_through _ c.as_slice-lengths.ensures k low)) (c.requires.can k low)
+    subst (IsMoved c.args.origin.start (get_or c.args.shifts.now.items k c.args.origin.start)) (sym (led-is (goal.at.add_points-requires-clause-can c).After-lead_through _ c.as_slice-in-Points.ensures k low)) (c.requires.can k low)
 
 pub returns-in_ok-add_points-in-Points-clause-ok : goal.returns-in_ok-add_points-in-Points-clause-ok
 returns-in_ok-add_points-in-Points-clause-ok c =
-    regrown c.args.origin.start (count c.args.origin.lengths.now) _ _ c.args.shifts.now.items c.add_points.new.shifts.items (led-is (goal.at.returns-in_ok-add_points-in-Points-clause-ok c).After-lead_through _ c.as_slice-lengths.ensures) c.in_ok-add_points-in-Points.ensures
+    regrown c.args.origin.start (count c.args.origin.lengths.now) _ _ c.args.shifts.now.items c.add_points.new.shifts.items (led-is (goal.at.returns-in_ok-add_points-in-Points-clause-ok c).After-lead_through _ c.as_slice-in-Points.ensures) c.in_ok-add_points-in-Points.ensures

@@ -1,5 +1,5 @@
-use Rattle.std.proofs.Common.{◌<◌, [], ◌∷◌, length, get_or, sym, ap, subst, ◌∙◌, arith, length-drop}
-use Rattle.fancy_index.proofs.Words.{flat_map, All-rest, Run, LieWithin, max_bytes, offsets, length-offsets, run_offsets, IsMoved, number_along}
+use Rattle.std.proofs.Common.{◌<◌, [], ◌∷◌, All, length, get_or, sym, ap, subst, ◌∙◌, arith, length-drop}
+use Rattle.fancy_index.proofs.Words.{flat_map, All-head, All-rest, Run, LieWithin, max_bytes, offsets, length-offsets, run_offsets, IsMoved, number_along}
 use Rattle.fancy_index.proofs.SumLaws.{grown_all, grown_run, NextRun, next_run, run_here}
 use Rattle.fancy_index.proofs.shift_columns.grow_along.Goals as goal
 use Rattle.fancy_index.proofs.shift_columns.grow_along.Goals.{In-Some}
@@ -7,21 +7,22 @@ use Rattle.fancy_index.proofs.shift_columns.grow_along.Goals.{In-Some}
 next : (c : In-Some) → NextRun (offsets c.args.places.now) c.loop-run.at c.in-Some.run' (flat_map run_offsets c.next.new.self)
 next c = next_run (offsets c.args.places.now) c.loop-run.at c.in-Some.run' _ _ c.loop-run.invariant.low c.loop-run.invariant.left c.in-Some.ensures.steps
 
-pub grow_run-requires-clause-few : goal.grow_run-requires-clause-few
-grow_run-requires-clause-few c =
-    omega (arith, (next (goal.at.grow_run-requires-clause-few c).In-Some).within, length-offsets c.args.places.now, c.items-items.ensures.value, c.items-items.ensures.limit)
+abbrev lies-within : Run → Type 0
+lies-within run = LieWithin (run.count ∷ []) (run.step ∷ []) run.offset max_bytes 1
 
-pub grow_run-requires-clause-many : goal.grow_run-requires-clause-many
-grow_run-requires-clause-many c = omega (arith, (next (goal.at.grow_run-requires-clause-many c).In-Some).within, c.requires.many, c.loop-run.invariant.grown.len)
-
-pub grow_run-requires-clause-places : goal.grow_run-requires-clause-places
-grow_run-requires-clause-places c = run_here (λ place. place < length c.args.numbers.now) _ _ _ _ (next (goal.at.grow_run-requires-clause-places c).In-Some) c.requires.places
-
-pub grow_run-requires-clause-can : goal.grow_run-requires-clause-can
-grow_run-requires-clause-can c = λ k above below.
-    let it = next (goal.at.grow_run-requires-clause-can c).In-Some in
-    subst (λ x. IsMoved c.args.start x (number_along c.args.numbers.now c.in-Some.run' c.loop-run.at k)) (sym (c.loop-run.invariant.grown.left k above))
-    (subst (λ p. IsMoved c.args.start (get_or c.args.shifts.now k 0) (get_or c.args.numbers.now p 0)) (sym (it.entry k above below)) (c.requires.can k (omega (arith, it.within, below, c.requires.many))))
+pub grow_run-requires : goal.grow_run-requires
+grow_run-requires c =
+    let it = next (goal.at.grow_run-requires c).In-Some in
+    record {
+      start = c.requires.start;
+      few = omega (arith, it.within, length-offsets c.args.places.now, c.items-items.ensures.value, c.items-items.ensures.limit);
+      lies = All-head lies-within _ _ (subst (All lies-within) c.in-Some.ensures.steps c.loop-run.invariant.lie);
+      many = omega (arith, it.within, c.requires.many, c.loop-run.invariant.grown.len);
+      places = run_here (λ place. place < length c.args.numbers.now) _ _ _ _ it c.requires.places;
+      can = λ k above below.
+          subst (λ x. IsMoved c.args.start x (number_along c.args.numbers.now c.in-Some.run' c.loop-run.at k)) (sym (c.loop-run.invariant.grown.left k above))
+          (subst (λ p. IsMoved c.args.start (get_or c.args.shifts.now k 0) (get_or c.args.numbers.now p 0)) (sym (it.entry k above below)) (c.requires.can k (omega (arith, it.within, below, c.requires.many))));
+    }
 
 pub overflow_add-at : goal.overflow_add-at
 overflow_add-at c = record { fits = omega (arith, (next (goal.at.overflow_add-at c).In-Some).within, length-offsets c.args.places.now, c.items-items.ensures.value, c.items-items.ensures.limit) }
@@ -30,7 +31,7 @@ pub loop-run-preserved : goal.loop-run-preserved
 loop-run-preserved c =
     let it = next (goal.at.loop-run-preserved c).In-Some in
     record {
-      lie = All-rest (λ (run : Run). LieWithin (run.count ∷ []) (run.step ∷ []) run.offset max_bytes 1) _ _ _ c.in-Some.ensures.steps c.loop-run.invariant.lie;
+      lie = All-rest lies-within _ _ _ c.in-Some.ensures.steps c.loop-run.invariant.lie;
       low = it.within;
       left = it.later;
       grown = grown_run _ _ _ c.args.shifts.now c.loop-run.shifts c.grow_run.new.shifts c.loop-run.at _ (omega arith) (λ k above below. ap (λ p. get_or c.args.numbers.now p 0) (it.entry k above below)) c.loop-run.invariant.grown c.grow_run.ensures;

@@ -6,5 +6,5 @@ abbrev pub invariant-loop-part : goal.invariant-loop-part
 invariant-loop-part l = record {
   left : drop l.part-index l.parts ≡ drop l.part-index l.fn.parts;
   named : all_named (take l.part-index l.fn.parts) ≡ true;
-  sums : AreSums l.layout l.fn.parts l.lengths l.start l.shifts.items l.part-index l.axis;
+  sums : AreSums l.origin.layout.now l.fn.parts l.origin.lengths.now l.origin.start l.shifts.items l.part-index l.axis;
 }

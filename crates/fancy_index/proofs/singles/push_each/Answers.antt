@@ -19,5 +19,4 @@ loop-shift-preserved c =
 pub returns : goal.returns
 returns c =
     let rows = c.args.rows in
-    let done = pushed_all _ _ _ _ _ _ (ap (map (moved_offset rows.inner.now.offset rows.place)) (drop_all c.loop-shift.shift-index rows.shifts.now (omega (arith, c.loop-shift-test.false)))) c.loop-shift.invariant in
-    record { bytes = done.0; left = done.1 }
+    pushed_all _ _ _ _ _ _ (ap (map (moved_offset rows.inner.now.offset rows.place)) (drop_all c.loop-shift.shift-index rows.shifts.now (omega (arith, c.loop-shift-test.false)))) c.loop-shift.invariant

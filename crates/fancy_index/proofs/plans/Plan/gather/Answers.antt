@@ -1,4 +1,4 @@
-use Rattle.std.proofs.Common.{◌≡◌, ℕ, ◌*◌, ◌++◌, List, length, ap, sym, ◌∙◌, arith}
+use Rattle.std.proofs.Common.{◌≡◌, ◌≤◌, ℕ, ◌+◌, ◌*◌, ◌++◌, List, All, length, ap, sym, subst, ◌∙◌, arith}
 use Rattle.fancy_index.proofs.Words.{multiples, items_at, joined_at, length-joined_at, joined-items, Planned}
 use Rattle.fancy_index.proofs.plans.Plan.gather.Goals as goal
 use Rattle.fancy_index.proofs.plans.Plan.gather.Goals.{After-axes, After-finish}
@@ -9,9 +9,11 @@ size c =
     let many : length c.args.self.now.offsets ≡ c.items.result = sym (ap (λ (v : Planned). length v.offsets) c.self.view_is) ∙ c.self.invariant ∙ sym c.items.ensures.value in
     omega (arith, ap (λ n. n * c.args.width) many, ap (λ p. p.1) c.in_ok-items.ensures, c.saturating_mul-bytes.ensures, c.filled-filled.ensures.small)
 
-pub push_all-items-requires-clause-room : goal.push_all-items-requires-clause-room
-push_all-items-requires-clause-room c =
-    omega (arith, size (goal.at.push_all-items-requires-clause-room c).After-axes, ap (λ (l : List ℕ). length l * c.args.width) c.axes.ensures)
+pub push_all-items-requires : goal.push_all-items-requires
+push_all-items-requires c = record {
+  inside = subst (All (λ offset. offset + c.args.width ≤ length c.args.block.now)) (sym c.axes.ensures) c.requires;
+  room = omega (arith, size (goal.at.push_all-items-requires c).After-axes, ap (λ (l : List ℕ). length l * c.args.width) c.axes.ensures);
+}
 
 pub finish-requires : goal.finish-requires
 finish-requires c =

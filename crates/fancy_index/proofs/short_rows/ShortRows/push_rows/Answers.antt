@@ -3,19 +3,14 @@ use Rattle.fancy_index.proofs.Passes.{push_front, pushed_front, pushed_all}
 use Rattle.fancy_index.proofs.ShortLaws.{split-rows, no-rows}
 use Rattle.fancy_index.proofs.short_rows.ShortRows.push_rows.Goals as goal
 
-pub push_each-items-requires-clause-inside : goal.push_each-items-requires-clause-inside
-push_each-items-requires-clause-inside c =
-    (push_front _ _ _ _ _ _ _ _ (split-rows c.args.self c.loop-k.k _ c.loop-k-test.true c.row.ensures) c.loop-k.invariant).inside
-
-pub push_each-items-requires-clause-room : goal.push_each-items-requires-clause-room
-push_each-items-requires-clause-room c =
-    (push_front _ _ _ _ _ _ _ _ (split-rows c.args.self c.loop-k.k _ c.loop-k-test.true c.row.ensures) c.loop-k.invariant).room
+pub push_each-items-requires : goal.push_each-items-requires
+push_each-items-requires c =
+    push_front _ _ _ _ _ _ _ _ (split-rows c.args.self c.loop-k.k _ c.loop-k-test.true c.row.ensures) c.loop-k.invariant
 
 pub loop-k-preserved : goal.loop-k-preserved
 loop-k-preserved c =
-    pushed_front _ _ _ _ _ _ _ _ _ (split-rows c.args.self c.loop-k.k _ c.loop-k-test.true c.row.ensures) c.push_each-items.ensures.bytes c.push_each-items.ensures.left c.loop-k.invariant
+    pushed_front _ _ _ _ _ _ _ _ _ (split-rows c.args.self c.loop-k.k _ c.loop-k-test.true c.row.ensures) c.push_each-items.ensures c.loop-k.invariant
 
 pub returns : goal.returns
 returns c =
-    let done = pushed_all _ _ _ _ _ _ (no-rows c.args.self c.loop-k.k (omega (arith, c.loop-k-test.false))) c.loop-k.invariant in
-    record { bytes = done.0; left = done.1 }
+    pushed_all _ _ _ _ _ _ (no-rows c.args.self c.loop-k.k (omega (arith, c.loop-k-test.false))) c.loop-k.invariant
