@@ -1,6 +1,6 @@
 //! Masks: the ranks at which they are true, and the offsets of these ranks.
 ghost use Rattle.std.specs.Prelude.{All, IfOk, IsTrue, List, OnOk, [], drop, get_or, length, pos, replicate, slice_index, take, ℕ, ◌++◌, ◌+◌, ◌<◌, ◌∷◌, ◌≡◌, ◌≤◌, ◌*ℤ◌, ◌/◌, ◌%◌, ◌^◌};
-ghost use Rattle.fancy_index.specs.Clauses.{LieWithin, count, max_bytes, max_items, offsets, run_offsets, truth, Mask, AreAll, LieInBytes, bits, bools_in, ranks_from, kind_in, numbers_in, true_ranks, IsAtRun, led};
+ghost use Rattle.fancy_index.specs.Clauses.{LieWithin, count, max_bytes, max_items, offsets, run_offsets, truth, Mask, AreAll, AreNoted, IsBlock, LieInBytes, bits, bools_in, ranks_from, kind_in, numbers_in, true_ranks, IsAtRun, led};
 
 use crate::singles::array_at;
 use arrays::{Items, copy, goes_by_columns};
@@ -130,14 +130,9 @@ fn note_sixteen(found: &mut [u32; 512], many: usize, bools: Bools<'_>, at: usize
 /// Writes the ranks of the true ones among adjacent bools. Sixteen that are all false are passed over
 /// at once.
 fn note_adjacent(found: &mut [u32; 512], bools: Bools<'_>, from: usize, end: usize) -> usize
-    requires lie { LieInBytes bools }
+    requires block { IsBlock bools from end }
     requires adjacent { bools.run.step ≡ pos 1 }
-    requires end { end ≤ bools.run.count }
-    requires few { end ≤ from + 512 }
-    requires order { from ≤ end }
-    ensures many { result ≤ 512 }
-    ensures found { let left = ranks_from bools.entry end in
-        take result found.new ++ left ≡ ranks_from bools.entry from }
+    ensures { AreNoted bools.entry from end found.new result }
 {
     let mut many = 0;
     let mut at = from;
@@ -150,14 +145,9 @@ fn note_adjacent(found: &mut [u32; 512], bools: Bools<'_>, from: usize, end: usi
 
 /// Writes the ranks of the bools in a range, which are all true.
 fn note_all(found: &mut [u32; 512], bools: Bools<'_>, from: usize, end: usize) -> usize
-    requires lie { LieInBytes bools }
-    requires end { end ≤ bools.run.count }
-    requires few { end ≤ from + 512 }
-    requires order { from ≤ end }
+    requires block { IsBlock bools from end }
     requires all { AreAll bools from end 1 }
-    ensures many { result ≤ 512 }
-    ensures found { let left = ranks_from bools.entry end in
-        take result found.new ++ left ≡ ranks_from bools.entry from }
+    ensures { AreNoted bools.entry from end found.new result }
 {
     let mut rank = (bools.rank + from) as u32;
     for k in from..end {
@@ -183,13 +173,9 @@ fn are_same(bytes: &[u8], from: usize, end: usize) -> bool
 /// Writes the ranks of the true bools of a block. If the bools are adjacent, and all of them or
 /// none of them are true, they are not looked at one by one.
 fn note_block(found: &mut [u32; 512], bools: Bools<'_>, from: usize, end: usize) -> usize
-    requires lie { LieInBytes bools }
-    requires end { end ≤ bools.run.count }
-    requires few { end ≤ from + 512 }
+    requires block { IsBlock bools from end }
     requires some { from < end }
-    ensures many { result ≤ 512 }
-    ensures found { let left = ranks_from bools.entry end in
-        take result found.new ++ left ≡ ranks_from bools.entry from }
+    ensures { AreNoted bools.entry from end found.new result }
 {
     let Run { offset, step, .. } = bools.run;
     if step != 1 {

@@ -1,5 +1,5 @@
 -- Bools, read from bytes.
-use Rattle.std.specs.Prelude.{ℕ, ◌≡◌, ◌+◌, ◌/◌, ◌%◌, ◌^◌, ◌<◌, ◌≤◌, ℤ, pos, List, [], ◌∷◌, map, length, get_or, drop, All}
+use Rattle.std.specs.Prelude.{ℕ, ◌≡◌, ◌+◌, ◌/◌, ◌%◌, ◌^◌, ◌<◌, ◌≤◌, ℤ, pos, List, [], ◌∷◌, ◌++◌, map, length, get_or, take, drop, All}
 use Rattle.fancy_index.specs.Words.{digits_l, truth, LieWithin, max_items, max_bytes, run_offsets}
 use Rattle.fancy_index.specs.declared.masks.Bools.{Bools}
 use Rattle.fancy_index.specs.inside.PointLists.{true_ranks}
@@ -33,3 +33,15 @@ pub record LieInBytes (bools : Bools) : Type 0 where
   pub few : bools.rank + bools.run.count ≤ max_items
   pub limit : LieWithin (bools.run.count ∷ []) (bools.run.step ∷ []) bools.run.offset max_bytes 1
   pub inside : All (λ offset. offset < length bools.bytes.now) (run_offsets bools.run)
+
+-- at most 512 bools, from `from` up to, but not including, `to`
+pub record IsBlock (bools : Bools) (from to : ℕ) : Type 0 where
+  pub lie : LieInBytes bools
+  pub order : from ≤ to
+  pub end : to ≤ bools.run.count
+  pub few : to ≤ from + 512
+
+-- the first `many` numbers in `found` are the ranks of the true ones among these bools
+pub record AreNoted (bools : Bools) (from end : ℕ) (found : List ℕ) (many : ℕ) : Type 0 where
+  pub few : many ≤ 512
+  pub ranks : take many found ++ ranks_from bools end ≡ ranks_from bools from

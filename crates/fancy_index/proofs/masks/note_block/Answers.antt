@@ -11,7 +11,7 @@ module _ (c : Else-step-ne1) where
       sym (to_z-of_z w64 c.args.bools.run.step fits) ∙ ap (to_z w64) c.if-step-ne1.false
 
   last : c.args.bools.run.offset + (c.args.end - 1) < length c.args.bools.bytes.now
-  last = byte-within c.args.bools c.requires.lie one (c.args.end - 1) (omega (arith, c.requires.end, c.requires.some))
+  last = byte-within c.args.bools c.requires.block.lie one (c.args.end - 1) (omega (arith, c.requires.block.end, c.requires.some))
 
 pub overflow_add-first : goal.overflow_add-first
 overflow_add-first c = record { fits = omega (arith, last c, c.ranges.bools, c.requires.some) }
@@ -31,18 +31,20 @@ truth-one byte some = grind arith
 -- all bools are the same as the first one
 alike : (c : Else-not-are_same) (number : ℕ) → truth (get_or c.args.bools.bytes.now (c.args.bools.run.offset + c.args.from) 0) ≡ number → AreAll c.args.bools c.args.from c.args.end number
 alike c number first k low high =
-    bool-after c.args.bools c.requires.lie (one (goal.at.bounds-bools-first c).Else-step-ne1) k (omega (arith, high, c.requires.end))
+    bool-after c.args.bools c.requires.block.lie (one (goal.at.bounds-bools-first c).Else-step-ne1) k (omega (arith, high, c.requires.block.end))
     ∙ ap (λ byte. pos (truth byte)) (c.if-not-are_same.ensures refl (c.args.bools.run.offset + k) (omega (arith, low)) (omega (arith, high)))
     ∙ ap pos first
 
 pub note_all-requires-clause-all : goal.note_all-requires-clause-all
 note_all-requires-clause-all c = alike (goal.at.note_all-requires-clause-all c).Else-not-are_same 1 (truth-one _ c.if-bools-first-eq0.false)
 
-pub returns-then-bools-first-eq0-clause-found : goal.returns-then-bools-first-eq0-clause-found
-returns-then-bools-first-eq0-clause-found c =
+pub returns-then-bools-first-eq0 : goal.returns-then-bools-first-eq0
+returns-then-bools-first-eq0 c =
     let bools = c.args.bools in
     let n = c.args.end - c.args.from in
     let end : c.args.from + n ≡ c.args.end = omega (arith, c.requires.some) in
-    let none = alike (goal.at.returns-then-bools-first-eq0-clause-found c).Else-not-are_same 0 (ap truth c.if-bools-first-eq0.true) in
-    sym (none_true (bools_in bools) bools.rank c.args.from n (omega (arith, c.requires.end, end, length-bools bools)) (λ j low high. none j low (omega (arith, high, end)))
-    ∙ ap (ranks_from bools) end)
+    let none = alike (goal.at.returns-then-bools-first-eq0 c).Else-not-are_same 0 (ap truth c.if-bools-first-eq0.true) in
+    record {
+      few = omega arith;
+      ranks = sym (none_true (bools_in bools) bools.rank c.args.from n (omega (arith, c.requires.block.end, end, length-bools bools)) (λ j low high. none j low (omega (arith, high, end))) ∙ ap (ranks_from bools) end);
+    }
