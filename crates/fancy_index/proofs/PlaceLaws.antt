@@ -2,72 +2,14 @@
 use Rattle.std.proofs.Common.{◌≡◌, ℕ, ◌+◌, ◌≤◌, ◌<◌, Bool, true, false, cond, Option, Some, None, if◌then◌else◌, List, [], ◌∷◌, ◌++◌, map, length, drop, get_or, refl, sym, ap, ◌∙◌, arith, append_assoc, length-append}
 use Rattle.fancy_index.proofs.Words.{drop_all, drop_more, Stretch, Before, Among, After, IndexPart, Part, Axis, Points, Between, axes_of_part, other_axes, are_points, axes_before, side_by_side, points_place, shown_part, gone_on, stand}
 
-abbrev stand_if : Option Stretch → List Part → Bool
-stand_if None parts = false
-stand_if (Some stretch) parts = stand stretch parts
-
-stand-next : (stretch : Stretch) (part : Part) (parts : List Part) → stand stretch (part ∷ parts) ≡ stand_if (gone_on stretch (are_points part)) parts
-stand-next Before (Axis pick) parts = refl
-stand-next Before (Points shape points) parts = refl
-stand-next Before Between parts = refl
-stand-next Among (Axis pick) parts = refl
-stand-next Among (Points shape points) parts = refl
-stand-next Among Between parts = refl
-stand-next After (Axis pick) parts = refl
-stand-next After (Points shape points) parts = refl
-stand-next After Between parts = refl
-
--- the other axes before the first points that are still to come, and those of one part
+-- the other axes before the first points that are still to come
 abbrev axes_left : Stretch → List Part → ℕ
 axes_left Before parts = axes_before parts
 axes_left _ parts = 0
 
-abbrev pub axes_at : Stretch → Part → ℕ
-axes_at Before part = length (axes_of_part part)
-axes_at _ part = 0
-
-abbrev axes_if : Option Stretch → Part → List Part → ℕ
-axes_if None part parts = 0
-axes_if (Some next) part parts = axes_at next part + axes_left next parts
-
-axes-next : (stretch : Stretch) (part : Part) (parts : List Part) → axes_left stretch (part ∷ parts) ≡ axes_if (gone_on stretch (are_points part)) part parts
-axes-next Before (Axis pick) parts = refl
-axes-next Before (Points shape points) parts = refl
-axes-next Before Between parts = refl
-axes-next Among (Axis pick) parts = refl
-axes-next Among (Points shape points) parts = refl
-axes-next Among Between parts = refl
-axes-next After (Axis pick) parts = refl
-axes-next After (Points shape points) parts = refl
-axes-next After Between parts = refl
-
 -- the place of the points after some parts, of which `place` other axes come before the points
 abbrev pub place_from : ℕ → Stretch → List Part → ℕ
 place_from place stretch parts = if stand stretch parts then place + axes_left stretch parts else 0
-
-abbrev pub place_if : ℕ → Option Stretch → Part → List Part → ℕ
-place_if place None part parts = 0
-place_if place (Some next) part parts = place_from (place + axes_at next part) next parts
-
-joined : (place : ℕ) (found : Option Stretch) (part : Part) (parts : List Part) → (if stand_if found parts then place + axes_if found part parts else 0) ≡ place_if place found part parts
-joined place None part parts = refl
-joined place (Some next) part parts = ap (λ n. if stand next parts then n else 0) (sum place (axes_at next part) (axes_left next parts))
-  where
-    sum : (a b c : ℕ) → a + (b + c) ≡ a + b + c
-    sum a b c = omega arith
-
--- one step of the loop: the part at `k`
-pub gone_through : (parts : List IndexPart) (k : ℕ) (part : IndexPart) (place : ℕ) (stretch : Stretch) (points : Bool) (found found' : Option Stretch) → k < length parts → part ≡ get_or parts k part → points ≡ are_points (shown_part part) → found ≡ gone_on stretch points → found ≡ found' →
-    place_from place stretch (map shown_part (drop k parts)) ≡ place_if place found' (shown_part part) (map shown_part (drop (k + 1) parts))
-gone_through parts k part place stretch points found found' low is points-are found-is there =
-    let later = map shown_part (drop (k + 1) parts) in
-    let this = shown_part part in
-    ap (λ l. place_from place stretch (map shown_part l)) (drop_more parts k part low)
-    ∙ ap (λ p. place_from place stretch (shown_part p ∷ later)) (sym is)
-    ∙ (λ i. if stand-next stretch this later i then place + axes-next stretch this later i else 0)
-    ∙ joined place (gone_on stretch (are_points this)) this later
-    ∙ ap (λ b. place_if place (gone_on stretch b) this later) (sym points-are)
-    ∙ ap (λ n. place_if place n this later) (sym found-is ∙ there)
 
 -- no parts are left
 pub place-end : (parts : List IndexPart) (k place : ℕ) (stretch : Stretch) → length parts ≤ k → place_from place stretch (map shown_part (drop k parts)) ≡ place
