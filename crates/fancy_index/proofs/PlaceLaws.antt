@@ -1,6 +1,6 @@
 -- The place of the points, part by part.
-use Rattle.std.proofs.Common.{◌≡◌, ℕ, ◌+◌, ◌≤◌, ◌<◌, Bool, true, false, cond, Option, Some, None, if◌then◌else◌, List, [], ◌∷◌, ◌++◌, map, length, drop, get_or, refl, sym, ap, ◌∙◌, arith, append_assoc, length-append}
-use Rattle.fancy_index.proofs.Words.{drop_all, drop_more, Stretch, Before, Among, After, IndexPart, Part, Axis, Points, Between, axes_of_part, other_axes, are_points, axes_before, side_by_side, points_place, shown_part, gone_on, stand}
+use Rattle.std.proofs.Common.{◌≡◌, ℕ, ◌+◌, ◌≤◌, ◌<◌, Bool, true, false, cond, if◌then◌else◌, List, [], ◌∷◌, ◌++◌, map, length, drop, get_or, sym, ap, ◌∙◌, arith, append_assoc, length-append}
+use Rattle.fancy_index.proofs.Words.{drop_all, drop_more, Stretch, Before, Among, After, IndexPart, Part, Axis, Points, Between, axes_of_part, other_axes, axes_before, side_by_side, points_place, shown_part, stand}
 
 -- the other axes before the first points that are still to come
 abbrev axes_left : Stretch → List Part → ℕ

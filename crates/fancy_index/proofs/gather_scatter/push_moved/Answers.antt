@@ -34,9 +34,3 @@ loop-run-preserved c =
 pub returns : goal.returns
 returns c =
     pushed_all _ _ _ _ _ _ (ap (λ l. map (moved_offset c.args.source.layout.now.offset c.args.source.start) (flat_map run_offsets l)) c.in-None.ensures.steps.0) c.loop-run.invariant.pass
-
-pub returns-in-Some : goal.returns-in-Some
-returns-in-Some c = record {
-  bytes = c.push_run.ensures.bytes ∙ ap (λ l. c.args.items.0 ++ joined_at l c.args.width c.args.block.now) c.in-Some.ensures.run.same;
-  left = omega (arith, ap (λ n. n * c.args.width) c.in-Some.ensures.run.count, c.push_run.ensures.left);
-}

@@ -1,17 +1,7 @@
-use Rattle.std.proofs.Common.{◌++◌, length, sym, ap, ◌∙◌, arith}
+use Rattle.std.proofs.Common.{ap, arith}
 use Rattle.fancy_index.proofs.Words.{drop_all, offsets, shifted_all}
 use Rattle.fancy_index.proofs.Passes.{push_front, pushed_front, pushed_all, split-shifts}
 use Rattle.fancy_index.proofs.gather_scatter.push_shifted.Goals as goal
-
--- Adjacent items have the same number of bytes one by one and together.
-pub push_singles-requires : goal.push_singles-requires
-push_singles-requires c = record { inside = c.in-Some.ensures.inside (length c.args.block.now) c.requires.inside; room = omega (arith, c.in-Some.ensures.size, c.requires.room) }
-
-pub returns-in-Some : goal.returns-in-Some
-returns-in-Some c = record {
-  bytes = c.push_singles.ensures.bytes ∙ ap (λ l. c.args.items.0 ++ l) (sym (c.in-Some.ensures.joined c.args.block.now));
-  left = omega (arith, c.in-Some.ensures.size, c.push_singles.ensures.left);
-}
 
 pub push_moved-items-requires : goal.push_moved-items-requires
 push_moved-items-requires c =
