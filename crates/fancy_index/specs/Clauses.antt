@@ -1,10 +1,10 @@
 -- What the contracts of this crate cite: its own definitions, and names from std and from the crates below.
 pub use Rattle.fancy_index.specs.IndexArrays.{are_within, array_axes_taken, cover, covers, is_index, is_within, item_axes, kind_of}
-pub use Rattle.fancy_index.specs.Indexed.{all_axes, as_index_shapes, indexed, parts_view, points_shape, view_of}
-pub use Rattle.fancy_index.specs.Parts.{Between, are_points, axes_before, axes_of_part, other_axes, parts, parts_of, points_place, shapes_of_part, side_by_side, wholes}
+pub use Rattle.fancy_index.specs.Indexed.{all_axes, indexed, parts_view, points_shape, view_of}
+pub use Rattle.fancy_index.specs.Parts.{Between, are_points, axes_of_part, other_axes, parts, parts_of, points_place, wholes}
 pub use Rattle.fancy_index.specs.Plans.{GivesPlan, IsPlanOf, put_each}
 pub use Rattle.fancy_index.specs.Sources.{index_array_of, index_item_of, index_items}
-pub use Rattle.fancy_index.specs.Words.{ArePicks, AtAxis, C, Gives, IsShape, LieWithin, OutOfMemory, TooLarge, address, assigned, axis_of, can_stretch, common_with, count, first_of, has_step, indexes, is_ellipsis, is_place, item_at, item_from, item_size, items_at, joined_at, list_all, max_axes, max_bytes, max_items, multiples, offsets_in, pick_shown, put, row_offsets, run_offsets, truth}
+pub use Rattle.fancy_index.specs.Words.{ArePicks, AtAxis, C, Gives, IsShape, LieWithin, OutOfMemory, TooLarge, address, assigned, can_stretch, count, has_step, indexes, is_ellipsis, is_place, item_at, item_from, item_size, items_at, list_all, max_axes, max_bytes, max_items, multiples, offsets_in, put, run_offsets, truth}
 unfoldable pub use Rattle.fancy_index.specs.Words.{offsets, shape_of}
 pub use Rattle.fancy_index.specs.declared.index_parts.Kind.TheVariants.{Integers, Mask, NoIndex}
 pub use Rattle.fancy_index.specs.inside.Bools.{AreAll, AreNoted, IsBlock, LieInBytes, bits, bools_in, ranks_from}
@@ -12,7 +12,7 @@ pub use Rattle.fancy_index.specs.inside.Items.{IsOutside, IsWithin, array_item, 
 pub use Rattle.fancy_index.specs.inside.Kept.{CanPush, CanPut, FitAt, HaveFilled, HavePushed, HavePut, first_offsets, moved_offsets, offsets_from, shifted_offsets}
 pub use Rattle.fancy_index.specs.inside.Lists.{items_left}
 pub use Rattle.fancy_index.specs.inside.Moved.{AllStart, IsMoved, laid_offsets}
-pub use Rattle.fancy_index.specs.inside.PartLists.{AddsParts, AreParts, IsChecked, IsReady, IsRest, LeadInto, all_named, first_offset, is_named, rest_of, rest_picks, shown_part, view_if_named}
+pub use Rattle.fancy_index.specs.inside.PartLists.{AddsParts, AreParts, IsChecked, IsReady, IsRest, LeadInto, all_named, first_offset, is_named, rest_picks, shown_part, view_if_named}
 pub use Rattle.fancy_index.specs.inside.Places.{gone_on}
 pub use Rattle.fancy_index.specs.inside.PointLists.{HavePlaces, IsPart, are_named, place_of, rank_on, ranks_of, true_ranks}
 pub use Rattle.fancy_index.specs.inside.Ranks.{IsAtRun, led}

@@ -1,7 +1,7 @@
 //! The checks of an index list with arrays. Each check covers the whole list before the next one
 //! begins.
-ghost use Rattle.std.specs.Prelude.{◌≡◌, ◌≤◌, length, nat_le, IfOk, IfErr, Err};
-ghost use Rattle.fancy_index.specs.Clauses.{list_all, max_axes, is_index, array_axes_taken, cover, indexed, index_items, items_left, IsChecked};
+ghost use Rattle.std.specs.Prelude.{◌≡◌, IfOk, IfErr, Err};
+ghost use Rattle.fancy_index.specs.Clauses.{list_all, is_index, cover, indexed, index_items, items_left, IsChecked};
 
 use crate::index_array::kind;
 use crate::index_parts::Kind;

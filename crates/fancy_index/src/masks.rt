@@ -1,5 +1,5 @@
 //! Masks: the ranks at which they are true, and the offsets of these ranks.
-ghost use Rattle.std.specs.Prelude.{All, IfOk, IsTrue, List, OnOk, [], drop, get_or, length, pos, replicate, slice_index, take, ℕ, ◌++◌, ◌+◌, ◌<◌, ◌∷◌, ◌≡◌, ◌≤◌, ◌*ℤ◌, ◌/◌, ◌%◌, ◌^◌};
+ghost use Rattle.std.specs.Prelude.{All, IfOk, IsTrue, List, OnOk, [], get_or, length, pos, replicate, slice_index, take, ℕ, ◌++◌, ◌+◌, ◌<◌, ◌∷◌, ◌≡◌, ◌≤◌, ◌*ℤ◌, ◌/◌, ◌%◌, ◌^◌};
 ghost use Rattle.fancy_index.specs.Clauses.{LieWithin, count, max_bytes, max_items, offsets, run_offsets, truth, Mask, AreAll, AreNoted, IsBlock, LieInBytes, bits, bools_in, ranks_from, kind_in, numbers_in, true_ranks, IsAtRun, led};
 
 use crate::singles::array_at;

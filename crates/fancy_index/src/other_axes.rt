@@ -1,6 +1,6 @@
 //! The axes other than those of the points, with all points at 0.
-ghost use Rattle.std.specs.Prelude.{IfErr, IfOk, OnOk, drop, length, map, take, ◌++◌, ◌<◌, ◌≡◌, ◌≤◌};
-ghost use Rattle.fancy_index.specs.Clauses.{other_axes, ArePicks, OutOfMemory, count, max_axes, IsRest, rest_picks, shown_part, AtAxis};
+ghost use Rattle.std.specs.Prelude.{IfErr, IfOk, OnOk, length, map, ◌++◌, ◌<◌, ◌≡◌, ◌≤◌};
+ghost use Rattle.fancy_index.specs.Clauses.{other_axes, ArePicks, OutOfMemory, max_axes, IsRest, rest_picks, shown_part, AtAxis};
 
 use crate::index_parts::IndexPart;
 use elem_descr::Refusal;

@@ -1,7 +1,7 @@
 //! Points on some axes: the points of an integer, of an array of integers and of a mask; and their
 //! common lengths.
 ghost use Rattle.std.specs.Prelude.{All, IfErr, IfOk, [], length, map, true, ◌∷◌, ◌≡◌, ◌≢◌, ◌≤◌};
-ghost use Rattle.fancy_index.specs.Clauses.{covers, is_within, item_axes, points_shape, parts_of, index_array_of, Gives, is_place, max_items, Integers, Mask, NoIndex, IsOutside, IsWithin, array_item, kind_in, numbers_in, shown_part, HavePlaces, IsPart, are_named, place_of, rank_on, ranks_of, true_ranks, list_all};
+ghost use Rattle.fancy_index.specs.Clauses.{covers, is_within, item_axes, points_shape, parts_of, Gives, is_place, max_items, Integers, Mask, NoIndex, IsOutside, IsWithin, array_item, kind_in, shown_part, IsPart, are_named, place_of, ranks_of, true_ranks};
 
 use crate::index_array::{Named, kind};
 use crate::index_parts::{IndexPart, Kind};

@@ -1,6 +1,6 @@
 //! The axes of the result, and the place of the points' axes among them.
-ghost use Rattle.std.specs.Prelude.{IfOk, OnOk, length, map, ◌++◌, ◌≡◌, ◌≤◌};
-ghost use Rattle.fancy_index.specs.Clauses.{all_axes, are_points, axes_before, axes_of_part, other_axes, points_place, side_by_side, Gives, axis_of, pick_shown, shape_of, shown_part, gone_on};
+ghost use Rattle.std.specs.Prelude.{length, map, ◌≡◌, ◌≤◌};
+ghost use Rattle.fancy_index.specs.Clauses.{all_axes, are_points, axes_of_part, other_axes, points_place, Gives, shape_of, shown_part, gone_on};
 
 use crate::index_parts::IndexPart;
 use elem_descr::Refusal;

@@ -1,7 +1,7 @@
 //! The offset of the first item with each point: how far each array moves it from the item with all
 //! points at 0.
-ghost use Rattle.std.specs.Prelude.{All, IfOk, OnOk, [], drop, get_or, length, map, pos, take, true, ℕ, ◌+◌, ◌<◌, ◌∷◌, ◌≡◌, ◌≤◌};
-ghost use Rattle.fancy_index.specs.Clauses.{IsShape, address, LieWithin, can_stretch, count, indexes, max_bytes, max_items, offsets, run_offsets, IsWithin, IsMoved, AreParts, IsReady, LeadInto, all_named, first_offset, is_named, AllCanGrow, AreSoMany, CanGrowAlong, IsOrigin, BeginAt, BeginsAt, CanAdd, CanGrow, HaveAdded, HaveAllGrown, HaveGrown, HaveGrownFrom, number_along, number_through, point_number, start_of, starts, stretched_ranks, strides_along};
+ghost use Rattle.std.specs.Prelude.{All, IfOk, OnOk, drop, get_or, length, map, pos, take, true, ℕ, ◌+◌, ◌<◌, ◌≡◌, ◌≤◌};
+ghost use Rattle.fancy_index.specs.Clauses.{IsShape, address, can_stretch, count, indexes, max_bytes, offsets, IsWithin, AreParts, IsReady, LeadInto, all_named, first_offset, is_named, AllCanGrow, AreSoMany, CanGrowAlong, IsOrigin, BeginAt, BeginsAt, CanAdd, CanGrow, HaveAdded, HaveAllGrown, HaveGrown, HaveGrownFrom, number_along, number_through, point_number, start_of, starts, stretched_ranks, strides_along};
 
 use crate::index_parts::IndexPart;
 use crate::masks::lead_through;
