@@ -45,14 +45,6 @@ shown-whole n = ap Rattle.view_ops.specs.Basics.Along (numbers-whole 0 n)
 not_zero : pos 1 ≡ pos 0 → ⊥
 not_zero same = omega (arith, ints)
 
-pub within-whole : (n : ℕ) → IsRunWithin (whole_run n) n
-within-whole n = record {
-  moves = not_zero;
-  count_within = omega arith;
-  from_zero = λ k low. omega (arith, ints);
-  below = λ k low. rw (one_by_one k) low;
-}
-
 -- one more whole axis
 pub whole_more : (old new : List AxisPick) (axes : List ℕ) (n : ℕ) (pick : AxisPick) → ArePicks (n ∷ []) (pick ∷ []) → pick_shown pick ≡ whole n → AddsPicks old new axes (map whole axes) → AddsPicks old (new ++ pick ∷ []) (axes ++ n ∷ []) (map whole (axes ++ n ∷ []))
 whole_more old new axes n pick within is adds = record {
@@ -111,18 +103,6 @@ none_taken : {A : Type 0} (axis end left : ℕ) (item : IndexItem A) (later : Li
 none_taken axis end left item later is new =
     let none : width left item later ≡ 0 = rw new refl in
     omega arith
-
-pub can_pick : {A : Type 0} (shape : List ℕ) (items : List (IndexItem A)) (done : List AxisPick) (k axis end : ℕ) → k < length items → axis ≤ end → end ≤ length shape → end ≡ axis + width (length shape - axis) (get_or items k (Integer (pos 0))) (drop (k + 1) items) → HavePicked shape items done k axis → CanPick shape items k axis end
-can_pick shape items done k axis end low later within is have =
-    let x = get_or items k (Integer (pos 0)) in
-    let range : (is_on_axis (slice_range shape axis end) x && are_on_axes (drop end shape) (drop (k + 1) items)) ≡ true = sym (ap (list_all (λ p. is_on_axis p.axes p.item)) (placed_more shape items k axis end low later is)) ∙ have.in_range in
-    record {
-      basic = next_holds is_basic items k (Integer (pos 0)) low have.basic;
-      step = next_holds has_step items k (Integer (pos 0)) low have.steps;
-      in_range = (and_parts (is_on_axis (slice_range shape axis end) x) (are_on_axes (drop end shape) (drop (k + 1) items)) range).0;
-      none = λ new. ap (λ n. take n (drop axis shape)) (none_taken axis end (length shape - axis) (get_or items k (Integer (pos 0))) (drop (k + 1) items) is new);
-      one = λ takes. omega (arith, length-slice_range shape axis end within, width_one (length shape - axis) x (drop (k + 1) items) takes);
-    }
 
 pub picked_more : {A : Type 0} (shape : List ℕ) (items : List (IndexItem A)) (done new : List AxisPick) (k axis end : ℕ) → k < length items → axis ≤ end → end ≤ length shape → axes_taken (drop (k + 1) items) ≤ length shape - end → end ≡ axis + width (length shape - axis) (get_or items k (Integer (pos 0))) (drop (k + 1) items) → HavePicked shape items done k axis → AddsPicks done new (slice_range shape axis end) (picks_of (slice_range shape axis end) (get_or items k (Integer (pos 0)))) → HavePicked shape items new (k + 1) end
 picked_more shape items done new k axis end low later within enough is have adds =

@@ -146,10 +146,6 @@ stepped_on strides made new picks i axis d low is have =
       left = ap (λ l. l ++ left) is ∙ append_assoc made (stride_of (get_or strides axis (pos 0)) pick) left ∙ ap (λ l. made ++ l) (sym step.made) ∙ ap (λ p. made ++ picked_strides (drop axis strides) p) (sym (drop_more picks i d low)) ∙ have.left;
     }
 
-pub stepped_all : (strides made : List ℤ) (picks : List AxisPick) (i axis : ℕ) → length picks ≤ i → HaveStepped strides made picks i axis → made ≡ picked_strides strides picks
-stepped_all strides made picks i axis over have =
-    sym (append-nil made) ∙ ap (λ p. made ++ picked_strides (drop axis strides) p) (sym (drop_all i picks over)) ∙ have.left
-
 pub length-strides : (strides : List ℤ) (shape : List ℕ) (picks : List AxisPick) → length strides ≡ length shape → ArePicks shape picks → length (picked_strides strides picks) ≡ length (shape_of_picks picks)
 length-strides strides shape (NewAxis ∷ picks) one are = ap suc (length-strides strides shape picks one are)
 length-strides strides [] [] one are = refl

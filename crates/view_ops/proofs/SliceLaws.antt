@@ -5,9 +5,6 @@ use Rattle.view_ops.proofs.Words.{cases_Bool, Decides-int_eq, int_eq, ZeroStep, 
 pub clamp_low : (x low : ℤ) (n : ℕ) → low ≤ℤ int_min (int_max x low) (low +ℤ pos n)
 clamp_low x low n = omega (arith, ints, clamps)
 
-pub clamp_high : (x low : ℤ) (n : ℕ) → int_min (int_max x low) (low +ℤ pos n) ≤ℤ (low +ℤ pos n)
-clamp_high x low n = omega (arith, ints, clamps)
-
 -- a slice with its bounds in range, the gap between them, and the number of steps in the gap
 pub record IsSpan (n gap count : ℕ) (start stop step : ℤ) : Type 0 where
   pub some : step ≢ pos 0
