@@ -1,6 +1,6 @@
 -- Laws of the axes that the items of an index take, and of what they pick.
-use Rattle.std.proofs.Common.{◌≡◌, ℕ, zero, suc, ◌+◌, ◌-◌, ◌<◌, ◌≤◌, Bool, true, ◌&&◌, ℤ, pos, ◌+ℤ◌, ◌*ℤ◌, List, [], ◌∷◌, ◌++◌, map, length, get_or, take, drop, slice_range, refl, sym, ap, ◌∙◌, arith, length-drop, length-take-le, append_assoc, Option}
-use Rattle.view_ops.proofs.Words.{ints, drop-drop, drop_more, append-nil, map-append, and_parts, false≢true, is_ok, drop_split, list_all, flat_map, range_with_len, IndexItem, Integer, Slice, Ellipsis, Array, is_basic, NewItem, natural, AxisPick, AtAxis, AlongAxis, NewAxis, Progression, slice_indices, IsRunWithin, takes_axis, axes_taken, width, placed, has_step, is_on_axis, are_on_axes, whole, picks_of, picks, pick_shown, ArePicks, AddsPicks}
+use Rattle.std.proofs.Common.{◌≡◌, ℕ, zero, suc, ◌+◌, ◌-◌, ◌<◌, ◌≤◌, Bool, true, ◌&&◌, ℤ, pos, ◌+ℤ◌, ◌*ℤ◌, List, [], ◌∷◌, ◌++◌, map, length, get_or, take, drop, slice_range, refl, sym, ap, ◌∙◌, arith, length-drop, append_assoc, Option}
+use Rattle.view_ops.proofs.Words.{ints, drop-drop, drop_more, append-nil, map-append, and_parts, is_ok, drop_split, list_all, flat_map, range_with_len, IndexItem, Integer, Slice, is_basic, natural, AxisPick, AtAxis, AlongAxis, NewAxis, Progression, slice_indices, axes_taken, width, placed, has_step, is_on_axis, are_on_axes, whole, picks_of, picks, pick_shown, ArePicks, AddsPicks}
 
 -- ---- the axes of items
 
@@ -74,35 +74,8 @@ pub record HavePicked {A : Type 0} (shape : List ℕ) (items : List (IndexItem A
   pub are : (more : List AxisPick) → ArePicks (drop axis shape) more → ArePicks shape (done ++ more)
   pub show : map pick_shown done ++ picks (drop axis shape) (drop k items) ≡ picks shape items
 
--- Item k can be picked.
-pub record CanPick {A : Type 0} (shape : List ℕ) (items : List (IndexItem A)) (k axis end : ℕ) : Type 0 where
-  pub basic : is_basic (get_or items k (Integer (pos 0))) ≡ true
-  pub step : has_step (get_or items k (Integer (pos 0))) ≡ true
-  pub in_range : is_on_axis (slice_range shape axis end) (get_or items k (Integer (pos 0))) ≡ true
-  pub one : takes_axis (get_or items k (Integer (pos 0))) ≡ true → length (slice_range shape axis end) ≡ 1
-  pub none : get_or items k (Integer (pos 0)) ≡ NewItem → slice_range shape axis end ≡ []
-
--- What holds for all remaining items holds for the next one and for all after it.
-next_holds : {X : Type 0} (p : X → Bool) (xs : List X) (k : ℕ) (d : X) → k < length xs → list_all p (drop k xs) ≡ true → p (get_or xs k d) ≡ true
-next_holds p xs k d low all = (and_parts (p (get_or xs k d)) (list_all p (drop (k + 1) xs)) (sym (ap (list_all p) (drop_more xs k d low)) ∙ all)).0
-
 rest_hold : {X : Type 0} (p : X → Bool) (xs : List X) (k : ℕ) (d : X) → k < length xs → list_all p (drop k xs) ≡ true → list_all p (drop (k + 1) xs) ≡ true
 rest_hold p xs k d low all = (and_parts (p (get_or xs k d)) (list_all p (drop (k + 1) xs)) (sym (ap (list_all p) (drop_more xs k d low)) ∙ all)).1
-
-width_one : {A : Type 0} (left : ℕ) (item : IndexItem A) (later : List (IndexItem A)) → takes_axis item ≡ true → width left item later ≡ 1
-width_one left (Integer at) later takes = refl
-width_one left (Slice start stop step) later takes = refl
-width_one left Ellipsis later takes = absurd (false≢true takes)
-width_one left NewItem later takes = absurd (false≢true takes)
-width_one left (Array number) later takes = refl
-
-length-slice_range : (shape : List ℕ) (axis end : ℕ) → end ≤ length shape → length (slice_range shape axis end) ≡ end - axis
-length-slice_range shape axis end within = omega (arith, length-take-le (end - axis) (drop axis shape) (omega (arith, length-drop axis shape)))
-
-none_taken : {A : Type 0} (axis end left : ℕ) (item : IndexItem A) (later : List (IndexItem A)) → end ≡ axis + width left item later → item ≡ NewItem → end - axis ≡ 0
-none_taken axis end left item later is new =
-    let none : width left item later ≡ 0 = rw new refl in
-    omega arith
 
 pub picked_more : {A : Type 0} (shape : List ℕ) (items : List (IndexItem A)) (done new : List AxisPick) (k axis end : ℕ) → k < length items → axis ≤ end → end ≤ length shape → axes_taken (drop (k + 1) items) ≤ length shape - end → end ≡ axis + width (length shape - axis) (get_or items k (Integer (pos 0))) (drop (k + 1) items) → HavePicked shape items done k axis → AddsPicks done new (slice_range shape axis end) (picks_of (slice_range shape axis end) (get_or items k (Integer (pos 0)))) → HavePicked shape items new (k + 1) end
 picked_more shape items done new k axis end low later within enough is have adds =

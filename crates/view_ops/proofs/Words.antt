@@ -1,5 +1,4 @@
 -- Names from std, from the crates below and from `specs/`, which the proofs use.
-pub use Rattle.elem_descr.specs.declared.index_item.IndexItem.TheVariants.{NewAxis as NewItem}
 pub use Rattle.shape_strides.specs.Addresses.{dot}
 pub use Rattle.shape_strides.specs.Layouts.{natural}
 pub use Rattle.std.proofs.Math.Nat.{mul-le-mul_right}
@@ -16,7 +15,7 @@ pub use Rattle.std.specs.Int.{div_ceil, w128}
 pub use Rattle.std.specs.List.{AllByRecursion}
 unfoldable pub use Rattle.std.specs.List.{IsDistinct}
 pub use Rattle.std.specs.Result.{is_ok}
-pub use Rattle.view_ops.specs.Basics.{are_on_axes, axes_taken, axis_of, has_step, is_on_axis, picked_index, picked_shape, picks, picks_of, placed, takes_axis, whole, width}
+pub use Rattle.view_ops.specs.Basics.{are_on_axes, axes_taken, axis_of, has_step, is_on_axis, picked_index, picked_shape, picks, picks_of, placed, whole, width}
 unfoldable pub use Rattle.view_ops.specs.Basics.{basic, picked_view, shape_picked}
 pub use Rattle.view_ops.specs.FieldViews.{GivesField}
 pub use Rattle.view_ops.specs.PickLaws.{first_number, length-run, number_at}
@@ -28,7 +27,7 @@ pub use Rattle.view_ops.specs.Transposes.{are_distinct, put_at, transposed_index
 unfoldable pub use Rattle.view_ops.specs.Transposes.{axes_of, transposed}
 pub use Rattle.view_ops.specs.ViewLaws.{LieWithin-view, inside-view, offsets-view}
 pub use Rattle.view_ops.specs.Views.{GivesView, IsViewOf, KeepsNested, View, view_through}
-pub use Rattle.view_ops.specs.Words.{*ℤ-zero, +ℤ_idr, Array, BadAxis, Descr, Ellipsis, Field, Fits, Gives, IndexItem, IndexOutOfRange, Integer, IsIndex, IsIndex-first, IsIndex-from_numbers, IsNested, IsShape, Layout, LieWithin, OutOfMemory, Refusal, Slice, TooManyAxes, TooManyIndices, ZeroStep, abs_pos, address, address_at, axis_below, cancel, check, count, counted_within, distance, dot-nil, dot-zeros, factors_pos, field_at, field_of, flat_map, get_or-map, get_or-offsets, index_at, int_eq, int_max, int_min, is_basic, item_size, length-index, length-offsets, list_all, list_any, max_axes, max_bytes, max_items, offsets, one-step, pos-natural, product_back, product_forth, range_with_len, rank, rank-lt, rank-same, same_answer, shape_of, shape_of-many, shape_of-ok, stepped_first, steps_end_below, zero_filled, zeros_are, ◌>>=◌}
+pub use Rattle.view_ops.specs.Words.{*ℤ-zero, +ℤ_idr, BadAxis, Descr, Ellipsis, Field, Fits, Gives, IndexItem, IndexOutOfRange, Integer, IsIndex, IsIndex-first, IsIndex-from_numbers, IsNested, IsShape, Layout, LieWithin, OutOfMemory, Refusal, Slice, TooManyAxes, TooManyIndices, ZeroStep, abs_pos, address, address_at, axis_below, cancel, check, count, counted_within, distance, dot-nil, dot-zeros, factors_pos, field_at, field_of, flat_map, get_or-map, get_or-offsets, index_at, int_eq, int_max, int_min, is_basic, item_size, length-index, length-offsets, list_all, list_any, max_axes, max_bytes, max_items, offsets, one-step, pos-natural, product_back, product_forth, range_with_len, rank, rank-lt, rank-same, same_answer, shape_of, shape_of-many, shape_of-ok, stepped_first, steps_end_below, zero_filled, zeros_are, ◌>>=◌}
 unfoldable pub use Rattle.view_ops.specs.Words.{stepped}
 pub use Rattle.view_ops.specs.declared.picks.AxisPick.{AxisPick}
 pub use Rattle.view_ops.specs.declared.picks.AxisPick.TheVariants.{Along as AlongAxis, At, At as AtAxis, New as NewAxis}

@@ -8,7 +8,7 @@ unfoldable pub use Rattle.elem_descr.specs.Steps.{stepped}
 pub use Rattle.elem_descr.specs.declared.descr.Descr.{Descr}
 pub use Rattle.elem_descr.specs.declared.descr.Field.{Field}
 pub use Rattle.elem_descr.specs.declared.index_item.IndexItem.{IndexItem}
-pub use Rattle.elem_descr.specs.declared.index_item.IndexItem.TheVariants.{Array, Ellipsis, Integer, NewAxis, Slice}
+pub use Rattle.elem_descr.specs.declared.index_item.IndexItem.TheVariants.{Ellipsis, Integer, NewAxis, Slice}
 pub use Rattle.elem_descr.specs.declared.refusal.Refusal.{Refusal}
 pub use Rattle.elem_descr.specs.declared.refusal.Refusal.TheVariants.{BadAxis, IndexOutOfRange, NoSuchField, OutOfMemory, TooManyAxes, TooManyIndices, ZeroStep}
 pub use Rattle.shape_strides.specs.Addresses.{LieWithin, address_at, natural}
