@@ -4,7 +4,7 @@ use Rattle.elementwise.proofs.Words.{lt-ltb, nat_tests, get_or-reverse, get_or-t
 
 -- ---- byte strings that do not end in NUL
 
-abbrev EndsWell : List ℕ → Type 0
+abbrev pub EndsWell : List ℕ → Type 0
 EndsWell [] = Unit {0}
 EndsWell (b ∷ []) = b ≡ 0 → ⊥
 EndsWell (b ∷ c ∷ bytes) = EndsWell (c ∷ bytes)
@@ -21,7 +21,7 @@ ends-by (b ∷ c ∷ bytes) last = ends-by (c ∷ bytes) (λ k is none. last (su
 eq-zero : (n : ℕ) → n ≡ 0 → nat_eq n 0 ≡ false → ⊥
 eq-zero n none no-zero = absurd (let is : false ≡ true = sym no-zero ∙ ap (λ b. nat_eq b 0) none in cc)
 
-without-ends : (bytes : List ℕ) → EndsWell (without_nuls bytes)
+pub without-ends : (bytes : List ℕ) → EndsWell (without_nuls bytes)
 without-ends bytes =
     let long = length-take (length bytes - nuls bytes) bytes in
     ends-by (without_nuls bytes) (λ k is none.
@@ -37,13 +37,13 @@ not-below-zero : (a : ℕ) → nat_lt a 0 ≡ false
 not-below-zero a = grind (arith, nat_tests)
 
 -- nothing is below NULs that are not longer
-none-below : (xs : List ℕ) (n : ℕ) → n ≤ length xs → text_below xs (replicate n 0) ≡ false
+pub none-below : (xs : List ℕ) (n : ℕ) → n ≤ length xs → text_below xs (replicate n 0) ≡ false
 none-below [] zero few = refl
 none-below [] (suc n) few = absurd (omega (arith, few))
 none-below (a ∷ xs) zero few = refl
 none-below (a ∷ xs) (suc n) few = (λ i. not-below-zero a i || (a == 0 && none-below xs n (omega (arith, few)) i)) ∙ and-false (a == 0)
 
-filled : (xs ys : List ℕ) (m n : ℕ) → EndsWell xs → EndsWell ys → length xs + m ≡ length ys + n → text_below (xs ++ replicate m 0) (ys ++ replicate n 0) ≡ text_below xs ys
+pub filled : (xs ys : List ℕ) (m n : ℕ) → EndsWell xs → EndsWell ys → length xs + m ≡ length ys + n → text_below (xs ++ replicate m 0) (ys ++ replicate n 0) ≡ text_below xs ys
 filled [] [] m n ends ends' even = let long : length {A = ℕ} (replicate m 0) ≡ m = length-replicate m 0 in none-below (replicate m 0) n (omega (arith, even, long))
 filled [] (b ∷ ys) zero n ends ends' even = absurd (omega (arith, even))
 filled [] (zero ∷ []) (suc m) n ends ends' even = absurd (ends' refl)

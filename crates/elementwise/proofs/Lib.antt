@@ -12,6 +12,7 @@ mod CutLaws
 pub mod ChunkLaws
 pub mod AlikeLaws
 pub mod PairLaws
+pub mod AddedLaws
 pub mod AppendedLaws
 pub mod MadeLaws
 pub mod CastingLaws
@@ -28,6 +29,7 @@ pub mod IntegerLaws
 pub mod BytesComparedLaws
 pub mod TextWordLaws
 pub mod EvenTextLaws
+pub mod BeyondLaws
 pub mod WordOrderLaws
 pub mod TextNumberLaws
 pub mod TrimmedLaws

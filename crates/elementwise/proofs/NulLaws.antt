@@ -1,5 +1,5 @@
 -- Byte strings that are cut, and padded with NULs.
-use Rattle.std.proofs.Common.{◌≡◌, ◌+◌, ◌-◌, ◌<◌, ◌≤◌, inl, inr, ℕ, List, ◌++◌, length, take, min, replicate, sym, ap, ◌∙◌, arith, append_assoc, length-take, length-append, append-nil}
+use Rattle.std.proofs.Common.{◌≡◌, ◌+◌, ◌-◌, ◌≤◌, inl, inr, ℕ, List, ◌++◌, length, take, min, replicate, sym, ap, ◌∙◌, arith, append_assoc, length-take, length-append, append-nil}
 use Rattle.elementwise.proofs.Words.{cases_lt, take-append_seam, length-replicate, take_all, take-take, take-append-le, replicate-append-replicate, without_nuls, padded, without_nuls-back, without_nuls-more, without_nuls-twice, length-without_nuls, nuls}
 
 -- ---- padding

@@ -6,10 +6,10 @@ use Rattle.elementwise.proofs.EvenTextLaws.{below-even}
 
 -- ---- the order
 
-not-above : (a b : ℕ) → a < b → nat_lt b a ≡ false
+pub not-above : (a b : ℕ) → a < b → nat_lt b a ≡ false
 not-above a b less = grind (arith, nat_tests)
 
-not-equal : (a b : ℕ) → a < b → (b == a) ≡ false
+pub not-equal : (a b : ℕ) → a < b → (b == a) ≡ false
 not-equal a b less = grind (arith, nat_tests)
 
 cancel : (m p q : ℕ) → nat_lt (m + p) (m + q) ≡ nat_lt p q

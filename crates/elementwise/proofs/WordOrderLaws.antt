@@ -71,7 +71,7 @@ rest-decides n at xs ys even within are are' same (inr other) = next-decides n a
 
 -- in the form that the code uses
 pub in-order : (n at : ℕ) (xs ys : List ℕ) (first second : ℕ) → length xs ≡ length ys → at + n ≤ length xs → AreBytes xs → AreBytes ys → first ≡ big_number n (item_at at n xs) → second ≡ big_number n (item_at at n ys) →
-    take at xs ≡ take at ys → (at + n ≡ length xs) ⊎ (item_at at n xs ≡ item_at at n ys → ⊥) → AreInOrder (first, second) xs ys
+    take at xs ≡ take at ys → (at + n ≡ length xs) ⊎ (item_at at n xs ≡ item_at at n ys → ⊥) → AreInOrder (nat_lt first second, nat_lt second first) xs ys
 in-order n at xs ys first second even within are are' is is' same ends = (
   (λ i. nat_lt (is i) (is' i)) ∙ rest-decides n at xs ys even within are are' same ends ∙ below-even xs ys even,
   (λ i. nat_lt (is' i) (is i)) ∙ rest-decides n at ys xs (sym even) (omega (arith, even, within)) are' are (sym same) (elim ends [ inl last ↦ inl (last ∙ even) | inr other ↦ inr (λ alike. other (sym alike)) ]) ∙ below-even ys xs (sym even),
@@ -92,8 +92,9 @@ same-front n at xs ys few some some' are are' same =
     sym (take-take at n xs few) ∙ ap (take at) front ∙ take-take at n ys few
 
 -- The first words decide the order of two-word numbers; if they are the same, the last words do.
-pub two-in-order : (a b p q : ℕ) (xs ys : List ℕ) → p < 2 ^ 64 → q < 2 ^ 64 → (a ≡ b → AreInOrder (p, q) xs ys) → ((a ≡ b → ⊥) → AreInOrder (a, b) xs ys) → AreInOrder (a * 2 ^ 64 + p, b * 2 ^ 64 + q) xs ys
-two-in-order a b p q xs ys low low' last first = elim (cases_eq a b) as (λ _. AreInOrder (a * 2 ^ 64 + p, b * 2 ^ 64 + q) xs ys) [
+pub two-in-order : (a b p q : ℕ) (xs ys : List ℕ) → p < 2 ^ 64 → q < 2 ^ 64 → (a ≡ b → AreInOrder (nat_lt p q, nat_lt q p) xs ys) → ((a ≡ b → ⊥) → AreInOrder (nat_lt a b, nat_lt b a) xs ys) →
+    AreInOrder (nat_lt (a * 2 ^ 64 + p) (b * 2 ^ 64 + q), nat_lt (b * 2 ^ 64 + q) (a * 2 ^ 64 + p)) xs ys
+two-in-order a b p q xs ys low low' last first = elim (cases_eq a b) as (λ _. AreInOrder (nat_lt (a * 2 ^ 64 + p) (b * 2 ^ 64 + q), nat_lt (b * 2 ^ 64 + q) (a * 2 ^ 64 + p)) xs ys) [
   | inl same ↦
       let below : nat_lt (a * 2 ^ 64 + p) (b * 2 ^ 64 + q) ≡ nat_lt p q = grind (arith, nat_tests) in
       let above : nat_lt (b * 2 ^ 64 + q) (a * 2 ^ 64 + p) ≡ nat_lt q p = grind (arith, nat_tests) in

@@ -14,7 +14,7 @@ pub use Rattle.elementwise.specs.declared.divisions.Divisor.{Divisor}
 pub use Rattle.elementwise.specs.declared.operands.Broadcast.{Broadcast}
 pub use Rattle.elementwise.specs.declared.operands.Layouts.{Layouts}
 pub use Rattle.elementwise.specs.declared.pairing.Pairing.{Pairing}
-pub use Rattle.elementwise.specs.declared.pairing.Pairing.TheVariants.{Alike, Signs, Texts, With}
+pub use Rattle.elementwise.specs.declared.pairing.Pairing.TheVariants.{Alike, Signs, Texts}
 pub use Rattle.elementwise.specs.declared.pairing.Work.{Work}
 pub use Rattle.elementwise.specs.declared.pairing.Work.TheVariants.{Cast, Change, Combine, Compare}
 pub use Rattle.elementwise.specs.declared.row_pairs.Operands.{Operands}
@@ -24,10 +24,11 @@ pub use Rattle.elementwise.specs.inside.FieldCasts.{can_cast_field}
 pub use Rattle.elementwise.specs.inside.Held.{stretched}
 pub use Rattle.elementwise.specs.inside.LeafCasts.{HasSource, IsCut, IsLeafCast, cast_items, leaf_cast, leaf_from, run_part, source, with_leaf}
 pub use Rattle.elementwise.specs.inside.Made.{AreItems, IsMade, IsTurned}
-pub use Rattle.elementwise.specs.inside.Operands.{all_made, made_of_all, pairs_of}
+pub use Rattle.elementwise.specs.inside.Operands.{AreAllMade, all_made, made_of_all, pairs_of}
 pub use Rattle.elementwise.specs.inside.PairPasses.{AreHeld, Holds, IsNative, compared_value, division_op, number_pair, pair_from, said, says_number, text_pair, text_said, truth_value, value_pair}
 pub use Rattle.elementwise.specs.inside.Shrunk.{IsShrunk, IsStretched, stretched_view}
-pub use Rattle.elementwise.specs.inside.Sides.{made_of, pair_count}
+pub use Rattle.elementwise.specs.inside.Added.{AreAdded}
+pub use Rattle.elementwise.specs.inside.Sides.{AreMade, AreMadeTo, made_of, pair_count}
 pub use Rattle.elementwise.specs.inside.Words.{AreInOrder, IsWord}
 pub use Rattle.elementwise.specs.inside.Works.{AreComparable, CanPair, IsWork, gives, left_of, meaning, pair_made, right_of, target, target_of}
 pub use Rattle.std.proofs.Math.Bool.{and-false}

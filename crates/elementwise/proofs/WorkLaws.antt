@@ -1,6 +1,6 @@
 -- The results on numbers: the number of their bytes, and that they are read back.
 use Rattle.std.proofs.Common.{◌≡◌, ◌≤◌, true, false, cond, refl, arith, ℤ, pos, int_lt}
-use Rattle.elementwise.proofs.Words.{Width, Two, Four, Eight, Scalar, Byte, Int, Bytes, LeafValue, number, text, IsNumber, size, width_size, number_of, decode, encode, decode_encode, number_size, Comparison, little, BoolScalar, says, compared, exact, exact_one, compared_value, truth_value, target, meaning, IsWork, target_of, gives, CanPair, Work, Pairing, Alike, Signs, Texts, With, Combine, Change, Compare, Cast}
+use Rattle.elementwise.proofs.Words.{Width, Two, Four, Eight, Scalar, Byte, Int, Bytes, LeafValue, number, IsNumber, size, width_size, number_of, decode, encode, decode_encode, number_size, Comparison, little, BoolScalar, says, compared, exact, exact_one, compared_value, truth_value, target, meaning, IsWork, target_of, gives, CanPair, Work, Pairing, Alike, Signs, Texts, Combine, Change, Compare, Cast}
 
 pub number-little : (scalar : Scalar) → IsNumber scalar → IsNumber (little scalar)
 number-little BoolScalar is = tt
@@ -36,5 +36,4 @@ work_reads_back (Cast to) s a b is can = decode_encode to a can
 pub pair_reads_back : (p : Pairing) (x y : LeafValue) → CanPair p → decode (target_of p) (encode (target_of p) (gives p x y)) ≡ gives p x y
 pair_reads_back (Alike work scalar) x y can = work_reads_back work scalar (number_of x) (number_of y) can.0 can.1
 pair_reads_back (Signs comparison left_signed) x y can = compared_reads_back comparison x y
-pair_reads_back (Texts texts) x y can = truth_reads_back texts.comparison x y
-pair_reads_back (With comparison width other) x y can = truth_reads_back comparison x (text other.now)
+pair_reads_back (Texts comparison width width') x y can = truth_reads_back comparison x y

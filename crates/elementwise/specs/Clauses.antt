@@ -11,11 +11,11 @@ unfoldable pub use Rattle.elementwise.specs.Words.{offsets}
 pub use Rattle.elementwise.specs.inside.Combined.{AreCastable, AreCompared, AreComparedWith, IsCombined}
 pub use Rattle.elementwise.specs.inside.FieldCasts.{can_cast_field}
 pub use Rattle.elementwise.specs.inside.Held.{fitted_layout, held_descr, held_items, held_shape}
-pub use Rattle.elementwise.specs.inside.LeafCasts.{HasSource, IsCut, cast_items, source, with_leaf}
+pub use Rattle.elementwise.specs.inside.LeafCasts.{HasSource, IsCut, cast_items, run_part, source, with_leaf}
 pub use Rattle.elementwise.specs.inside.Made.{AreCast, AreItems, IsCast}
-pub use Rattle.elementwise.specs.inside.Operands.{made_of_all, pairs_of}
+pub use Rattle.elementwise.specs.inside.Operands.{AreAllMade, pairs_of}
 pub use Rattle.elementwise.specs.inside.PairPasses.{division_op, number_pair, said, says_number, text_pair, text_said, truth_value}
 pub use Rattle.elementwise.specs.inside.Shrunk.{IsStretched}
-pub use Rattle.elementwise.specs.inside.Sides.{made_of, pair_count}
+pub use Rattle.elementwise.specs.inside.Sides.{AreMade, pair_count}
 pub use Rattle.elementwise.specs.inside.Words.{AreInOrder, CanCut, IsWord, IsWordLen}
 pub use Rattle.elementwise.specs.inside.Works.{AreComparable, IsComparing, IsWork, meaning, target}

@@ -1,3 +1,4 @@
+pub mod Added
 pub mod Combined
 pub mod FieldCasts
 pub mod LeafCasts

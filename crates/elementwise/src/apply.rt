@@ -167,11 +167,7 @@ impl<'a> Fitted<'a> {
 /// The results for the items of two arrays, each of which is cast as a whole and then stretched.
 /// Its frame is large, so it is not inlined.
 #[inline(never)]
-fn make_whole(
-    alloc: Global,
-    pairing: &Pairing<'_>,
-    both: Broadcast<'_>,
-) -> Result<Owned, AllocError>
+fn make_whole(alloc: Global, pairing: &Pairing, both: Broadcast<'_>) -> Result<Owned, AllocError>
     requires { AreCastable pairing.now both }
     ensures { IfOk result (IsCombined pairing.now both.entry) }
 {
@@ -231,7 +227,7 @@ fn in_runs(both: Broadcast<'_>) -> Option<InRuns<'_>>
 /// The results for the items of two arrays, which are cast and then stretched.
 pub(crate) fn make_cast(
     alloc: Global,
-    pairing: &Pairing<'_>,
+    pairing: &Pairing,
     both: Broadcast<'_>,
 ) -> Result<Owned, AllocError>
     requires { AreCastable pairing.now both }

@@ -1,66 +1,36 @@
 //! Comparisons of all items of arrays of byte strings with bytes.
-ghost use Rattle.std.specs.Prelude.{IfOk, [], map, ◌∷◌, ◌≡◌};
-ghost use Rattle.elementwise.specs.Clauses.{ScalarDescr, bytes_compared_result, compared_item, Bytes, C, Gives, encode_item, item_from, item_size, offsets, offsets_in, owned_items, text, without_nuls, AreComparedWith, flat_map};
+ghost use Rattle.std.specs.Prelude.{IfOk, List, [], length, map, ℕ, ◌∷◌, ◌≡◌, ◌≤◌};
+ghost use Rattle.elementwise.specs.Clauses.{bytes_compared_result, compared, compared_item, C, Gives, encode_item, item_from, item_size, offsets, offsets_in, owned_items, text, without_nuls, flat_map};
 
-use crate::byte_string_pairs::without_nuls;
+use crate::byte_strings::without_nuls;
 use crate::comparisons::compare_with_one;
-use crate::operands::{made, spread, without_repeats};
-use crate::pairing::Pairing;
 use crate::promotion::scalar_of;
-use crate::row_pairs::Operands;
 use arrays::{Items, Owned};
-use broadcasting::repeats;
-use elem_descr::{BytesLen, Comparison, Refusal, Scalar};
+use elem_descr::{Comparison, Refusal, Scalar};
 use raw_block::BlockBuilder;
-use std::alloc::{AllocError, Global};
+use std::alloc::Global;
 
-/// Compares the byte strings of an array with one that does not end with NULs.
-fn compare_with(
-    alloc: Global,
-    comparison: Comparison,
-    width: BytesLen,
-    operand: Items<'_>,
-    other: &[u8],
-) -> Result<Owned, AllocError>
-    requires { operand.descr.now ≡ ScalarDescr (Bytes width) }
-    ensures { IfOk result (AreComparedWith comparison operand.entry (text other.now)) }
+/// For bytes that do not end with NULs, a comparison with at most `len` bytes that gives the same
+/// for all byte strings of at most `len` bytes. None of them is equal to longer bytes, and only
+/// those up to the first `len` of the bytes are less.
+fn within(comparison: Comparison, bytes: &[u8], len: usize) -> (Comparison, &[u8])
+    requires { without_nuls bytes.now ≡ bytes.now }
+    ensures few { length result.1.now ≤ len }
+    ensures same { (item : List ℕ) → length item ≤ len
+        → compared result.0 (text (without_nuls item)) (text (without_nuls result.1.now))
+        ≡ compared comparison (text (without_nuls item)) (text bytes.now) }
 {
-    let operands = Operands {
-        left: operand,
-        right: operand,
-    };
-    let _items = operand.layout.shape.items();
-    let pairing = Pairing::With {
-        comparison,
-        width,
-        other,
-    };
-    made(alloc, &pairing, operands)
-}
-
-/// Compares items with bytes that do not end with NULs. Items that repeat are compared once.
-fn compare_once(
-    alloc: Global,
-    comparison: Comparison,
-    width: BytesLen,
-    operand: Items<'_>,
-    other: &[u8],
-) -> Result<Owned, AllocError>
-    requires { operand.descr.now ≡ ScalarDescr (Bytes width) }
-    ensures { IfOk result (AreComparedWith comparison operand.entry (text other.now)) }
-{
-    let layout = operand.layout;
-    if !repeats(layout) {
-        return compare_with(alloc, comparison, width, operand, other);
+    if bytes.len() <= len {
+        return (comparison, bytes);
     }
-    let small = without_repeats(alloc, layout, layout, &layout.shape)?;
-    let once = Items {
-        block: operand.block,
-        layout: &small.first,
-        descr: operand.descr,
-    };
-    let made = compare_with(alloc, comparison, width, once, other)?;
-    spread(alloc, &made, &layout.shape)
+    match comparison {
+        Comparison::Equal => (Comparison::Less, &[]),
+        Comparison::NotEqual => (Comparison::GreaterOrEqual, &[]),
+        Comparison::Less => (Comparison::LessOrEqual, &bytes[..len]),
+        Comparison::LessOrEqual => (Comparison::LessOrEqual, &bytes[..len]),
+        Comparison::Greater => (Comparison::Greater, &bytes[..len]),
+        Comparison::GreaterOrEqual => (Comparison::Greater, &bytes[..len]),
+    }
 }
 
 /// Compares the byte strings of an array with bytes, which may be longer than an item. Returns
@@ -87,12 +57,9 @@ pub fn compare_bytes(
         return Err(Refusal::NotForThisKind);
     };
     let len = width.get();
-    if bytes.len() <= len {
-        let mut item = BlockBuilder::try_new(alloc, len)?;
-        item.push_bytes(bytes);
-        item.push_zeros(len - bytes.len());
-        let item = item.finish();
-        return Ok(compare_with_one(alloc, comparison, operand, &from, item)?);
-    }
-    Ok(compare_once(alloc, comparison, width, operand, without_nuls(bytes))?)
+    let (comparison, kept) = within(comparison, without_nuls(bytes), len);
+    let mut item = BlockBuilder::try_new(alloc, len)?;
+    item.push_bytes(kept);
+    item.push_zeros(len - kept.len());
+    Ok(compare_with_one(alloc, comparison, operand, &from, item.finish())?)
 }

@@ -1,6 +1,6 @@
 //! Divisions of pairs of unsigned numbers of one byte, by a table of reciprocals.
-ghost use Rattle.std.specs.Prelude.{false, get_or, ℕ, ◌*◌, ◌++◌, ◌+◌, ◌-◌, ◌/◌, ◌<◌, ◌^◌, ◌≡◌, ◌≤◌};
-ghost use Rattle.elementwise.specs.Clauses.{binary, floor_quotient, Little, integer, joined, low_bits, division_op, number_pair, made_of, pair_count};
+ghost use Rattle.std.specs.Prelude.{false, get_or, ℕ, ◌*◌, ◌+◌, ◌-◌, ◌/◌, ◌<◌, ◌^◌, ◌≡◌, ◌≤◌};
+ghost use Rattle.elementwise.specs.Clauses.{binary, floor_quotient, Little, integer, low_bits, division_op, number_pair, pair_count, AreMade};
 
 use crate::bits;
 use crate::operands::note_slice;
@@ -47,11 +47,9 @@ pub(crate) fn push_divided_bytes<const LEAVES: bool, N: Number, O: Ordered>(
     requires left { pairs.left.width ≡ N.WIDTH }
     requires right { pairs.right.width ≡ N.WIDTH }
     requires room { pair_count pairs * N.WIDTH ≤ block.1 }
-    ensures bytes { result.0 ≡ block.0
-        ++ joined (made_of
+    ensures { AreMade
         (number_pair (N.scalar O.order) (N.scalar O.order) (N.scalar Little)
-        (binary (division_op LEAVES) (N.scalar Little))) pairs.entry) (pair_count pairs.entry) }
-    ensures left { pair_count pairs.entry * N.WIDTH + result.1 ≡ block.1 }
+        (binary (division_op LEAVES) (N.scalar Little))) N.WIDTH pairs.entry block result }
 {
     note_slice(pairs.left.bytes);
     note_slice(pairs.right.bytes);

@@ -2,7 +2,6 @@
 ghost use Rattle.std.specs.Prelude.{All, IfOk, drop, length, take, ◌+◌, ◌≡◌, ◌≤◌};
 ghost use Rattle.elementwise.specs.Clauses.{ScalarDescr, Bytes, big_number, item_at, offsets, without_nuls, CanCut, IsWordLen};
 
-use crate::byte_string_pairs::without_nuls;
 use crate::operands::without_repeats;
 use arrays::Items;
 use broadcasting::repeats;
@@ -10,6 +9,19 @@ use elem_descr::BytesLen;
 use machine_numbers::{HighFirst, LowFirst, Ordered};
 use shape_strides::{Layout, Shape, Walk};
 use std::alloc::{AllocError, Global};
+
+/// A byte string without its trailing NULs, of which whole words go first.
+pub(crate) fn without_nuls(item: &[u8]) -> &[u8]
+    ensures { result.now ≡ without_nuls item.now }
+{
+    let mut len = item.len();
+    while len >= 8 && LowFirst::read_eight(&item[len - 8..len]) == 0 {
+        len -= 8;
+    }
+    let item = &item[..len];
+    let nuls = item.iter().rev().take_while(|b| **b == 0).count();
+    &item[..item.len() - nuls]
+}
 
 /// The length of the longest byte string without its trailing NULs, and at least 1.
 fn longest(block: &[u8], layout: &Layout, width: usize) -> usize

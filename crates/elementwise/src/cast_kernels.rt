@@ -1,6 +1,6 @@
 //! Casts of the numbers of operands: which kernel does them.
-ghost use Rattle.std.specs.Prelude.{◌*◌, ◌++◌, ◌+◌, ◌≡◌, ◌≤◌};
-ghost use Rattle.elementwise.specs.Clauses.{IsNumber, Little, item_size, size, wrap, made_of_all, pairs_of, number_pair};
+ghost use Rattle.std.specs.Prelude.{◌*◌, ◌≡◌, ◌≤◌};
+ghost use Rattle.elementwise.specs.Clauses.{IsNumber, Little, item_size, size, wrap, AreAllMade, pairs_of, number_pair};
 
 use crate::kernels::{Kernel, append};
 use crate::row_pairs::Operands;
@@ -31,11 +31,9 @@ pub(crate) fn cast<S: Number, P: Ordered>(
     requires left { item_size operands.left.descr.now ≡ S.WIDTH }
     requires right { item_size operands.right.descr.now ≡ S.WIDTH }
     requires room { pairs_of operands * size scalar.now ≤ block.1 }
-    ensures bytes { result.0 ≡ block.0
-        ++ made_of_all
+    ensures { AreAllMade
         (number_pair (S.scalar P.order) (S.scalar P.order) scalar.now (λ a _. wrap scalar.now a))
-        operands.entry }
-    ensures left { pairs_of operands.entry * size scalar.now + result.1 ≡ block.1 }
+        (size scalar.now) operands.entry block result }
 {
     match scalar {
         Scalar::Bool => append::<Casting, S, S, bool, P, LowFirst>(block, operands),

@@ -1,6 +1,6 @@
 //! Casts: the items of an array as items of another element type.
 ghost use Rattle.std.specs.Prelude.{IfErr, IfOk, IsTrue, if◌then◌else◌, length, map, nat_le, true, ◌*◌, ◌+◌, ◌<◌, ◌≡◌, ◌≤◌};
-ghost use Rattle.elementwise.specs.Clauses.{ScalarDescr, can_cast, cast_item, C, IsNumber, NoSuchCast, OutOfMemory, TooLarge, count, encode_item, item_from, item_size, leaf_at, leaves_of, max_bytes, offsets, offsets_in, owned_items, place, size, HasSource, IsCut, cast_items, source, AreCast, AreItems, IsCast, flat_map};
+ghost use Rattle.elementwise.specs.Clauses.{ScalarDescr, can_cast, cast_item, C, IsNumber, NoSuchCast, OutOfMemory, TooLarge, count, encode_item, item_from, item_size, leaf_at, leaves_of, max_bytes, offsets, offsets_in, owned_items, place, size, HasSource, IsCut, cast_items, run_part, source, AreCast, AreItems, IsCast, flat_map};
 
 use crate::apply::Held;
 use crate::castable::can_cast;
@@ -67,60 +67,50 @@ pub(crate) fn cast_numbers(
     made(alloc, &pairing, operands)
 }
 
-/// A run of items of an element type.
-#[derive(Clone, Copy, Drop)]
-struct ItemRun<'a, 'b> {
-    items: Side<'a>,
-    descr: &'b Descr,
-    ghost wide: { items.width ≡ item_size descr.now },
-}
-
-impl<'a, 'b> ItemRun<'a, 'b> {
-    ghost use Rattle.elementwise.specs.inside.LeafCasts.{run_part};
-
-    /// Some of the items, starting with one of them.
-    fn part(self, first: usize, count: usize) -> ItemRun<'a, 'b>
-        requires some { 1 ≤ count }
-        requires within { first + count ≤ self.items.run.count }
-        ensures run { result.items.run ≡ run_part self.entry.items.run first count }
-        ensures bytes { result.items.bytes.now ≡ self.entry.items.bytes.now }
-        ensures descr { result.descr.now ≡ self.entry.descr.now }
-    {
-        let items = self.items;
-        let run = Run {
-            offset: place(items.run, first),
-            count,
-            step: items.run.step,
-        };
-        ItemRun {
-            items: Side {
-                bytes: items.bytes,
-                run,
-                width: items.width,
-            },
-            descr: self.descr,
-        }
+/// Some of the items of a run, starting with one of them.
+fn part(items: Side<'_>, first: usize, count: usize) -> Side<'_>
+    requires some { 1 ≤ count }
+    requires within { first + count ≤ items.run.count }
+    ensures run { result.run ≡ run_part items.entry.run first count }
+    ensures bytes { result.bytes.now ≡ items.entry.bytes.now }
+    ensures width { result.width ≡ items.entry.width }
+{
+    let run = Run {
+        offset: place(items.run, first),
+        count,
+        step: items.run.step,
+    };
+    Side {
+        bytes: items.bytes,
+        run,
+        width: items.width,
     }
 }
 
 /// A block with exactly the items of a run, cast leaf by leaf: all items' first leaves, then their
 /// second ones, and so on.
-fn cast_band(alloc: Global, from: ItemRun<'_, '_>, to: &Descr) -> Result<RawBlock, AllocError>
-    requires can { can_cast from.descr.now to.now ≡ true }
-    requires few { from.items.run.count * item_size to.now ≤ max_bytes }
-    ensures { IfOk result (AreCast from.entry.items from.entry.descr.now to.now) }
+fn cast_band(
+    alloc: Global,
+    from: Side<'_>,
+    descr: &Descr,
+    to: &Descr,
+) -> Result<RawBlock, AllocError>
+    requires wide { from.width ≡ item_size descr.now }
+    requires can { can_cast descr.now to.now ≡ true }
+    requires few { from.run.count * item_size to.now ≤ max_bytes }
+    ensures { IfOk result (AreCast from.entry descr.now to.now) }
 {
-    let _from_item = from.descr.size();
+    let _from_item = descr.size();
     let row = to.size();
-    let bytes = from.items.bytes;
-    let mut rows = RawBlock::try_zeroed(alloc, from.items.run.count * row)?;
+    let bytes = from.bytes;
+    let mut rows = RawBlock::try_zeroed(alloc, from.run.count * row)?;
     for k in 0..to.leaf_count() {
         let leaf = leaf_of(to, k);
-        let source = source_of(from.descr, k);
+        let source = source_of(descr, k);
         let column = Column {
             from: Side {
                 bytes: &bytes[source.at.min(bytes.len())..],
-                run: from.items.run,
+                run: from.run,
                 width: source.scalar.size(),
             },
             to: Places {
@@ -137,19 +127,25 @@ fn cast_band(alloc: Global, from: ItemRun<'_, '_>, to: &Descr) -> Result<RawBloc
 
 /// A block with exactly the items of a run, cast. They are cast in bands that stay in the cache, so
 /// that each line of the block is written once.
-fn cast_run(alloc: Global, from: ItemRun<'_, '_>, to: &Descr) -> Result<RawBlock, AllocError>
-    requires can { can_cast from.descr.now to.now ≡ true }
-    requires few { from.items.run.count * item_size to.now ≤ max_bytes }
-    ensures { IfOk result (AreCast from.entry.items from.entry.descr.now to.now) }
+fn cast_run(
+    alloc: Global,
+    from: Side<'_>,
+    descr: &Descr,
+    to: &Descr,
+) -> Result<RawBlock, AllocError>
+    requires wide { from.width ≡ item_size descr.now }
+    requires can { can_cast descr.now to.now ≡ true }
+    requires few { from.run.count * item_size to.now ≤ max_bytes }
+    ensures { IfOk result (AreCast from.entry descr.now to.now) }
 {
-    let count = from.items.run.count;
+    let count = from.run.count;
     let size = to.size();
     let most = FEW.max(NEAR / size);
     let mut cast = BlockBuilder::try_new(alloc, count * size)?;
     let mut done = 0;
     while done < count {
         let next = most.min(count - done);
-        let band = cast_band(alloc, from.part(done, next), to)?;
+        let band = cast_band(alloc, part(from, done, next), descr, to)?;
         cast.push_bytes(band.bytes());
         done += next;
     }
@@ -189,7 +185,7 @@ fn cast_block(alloc: Global, from: Items<'_>, to: &Descr) -> Result<RawBlock, Al
             run,
             width,
         };
-        return cast_run(alloc, ItemRun { items, descr }, to);
+        return cast_run(alloc, items, descr, to);
     }
     let packed = gather(alloc, from.block, from.layout, width)?;
     let items = Side {
@@ -201,7 +197,7 @@ fn cast_block(alloc: Global, from: Items<'_>, to: &Descr) -> Result<RawBlock, Al
         },
         width,
     };
-    cast_run(alloc, ItemRun { items, descr }, to)
+    cast_run(alloc, items, descr, to)
 }
 
 /// Items, cast to an element type for which the cast exists.

@@ -1,9 +1,10 @@
 //! Operands of two types, cast and combined chunk by chunk, so that the cast items stay in the
 //! cache.
-ghost use Rattle.std.specs.Prelude.{◌≡◌, ◌+◌, ◌*◌, ◌++◌, ◌≤◌, [], ◌∷◌, IfOk};
+ghost use Rattle.std.specs.Prelude.{◌≡◌, ◌+◌, ◌*◌, ◌≤◌, [], ◌∷◌, IfOk};
 ghost use Rattle.elementwise.specs.Words.{flat_map, ScalarDescr, encode_item, size, offsets, run_offsets, max_items, BeginsWithin};
 ghost use Rattle.elementwise.specs.inside.Combined.{AreCastable, IsCombined, all_given};
 ghost use Rattle.elementwise.specs.inside.LeafCasts.{run_part};
+ghost use Rattle.elementwise.specs.inside.Added.{AreAdded};
 ghost use Rattle.elementwise.specs.inside.Works.{target_of};
 
 use crate::apply::Held;
@@ -64,7 +65,7 @@ struct Chunk {
 /// Appends the results for a chunk of the pairs of items, which are cast together.
 fn push_chunk(
     alloc: Global,
-    pairing: &Pairing<'_>,
+    pairing: &Pairing,
     runs: InRuns<'_>,
     chunk: Chunk,
     block: BlockBuilder,
@@ -73,11 +74,11 @@ fn push_chunk(
     requires some { 1 ≤ chunk.count }
     requires within { chunk.first + chunk.count ≤ runs.left.count }
     requires room { chunk.count * size (target_of pairing.now) ≤ block.1 }
-    ensures bytes { IfOk result (λ b. b.0 ≡ block.0
-        ++ flat_map (encode_item (ScalarDescr (target_of pairing.now)))
+    ensures { IfOk result
+        (AreAdded (chunk.count * size (target_of pairing.now))
+        (flat_map (encode_item (ScalarDescr (target_of pairing.now)))
         (all_given pairing.now runs.entry.both (run_part runs.entry.left chunk.first chunk.count)
-        (run_part runs.entry.right chunk.first chunk.count))) }
-    ensures left { IfOk result (λ b. chunk.count * size (target_of pairing.now) + b.1 ≡ block.1) }
+        (run_part runs.entry.right chunk.first chunk.count))) block) }
 {
     let Broadcast { left, right, .. } = runs.both;
     let near = part(alloc, runs.left, chunk.first, chunk.count)?;
@@ -106,7 +107,7 @@ fn push_chunk(
 /// The results for the items of two operands, in their shape.
 pub(crate) fn make_by_chunks(
     alloc: Global,
-    pairing: &Pairing<'_>,
+    pairing: &Pairing,
     runs: InRuns<'_>,
 ) -> Result<Owned, AllocError>
     requires { AreCastable pairing.now runs.both }

@@ -1,6 +1,6 @@
 //! Comparisons of the numbers of operands: which kernel does them.
-ghost use Rattle.std.specs.Prelude.{if◌then◌else◌, int_lt, pos, ◌++◌, ◌+◌, ◌≡◌, ◌≤◌};
-ghost use Rattle.elementwise.specs.Clauses.{BoolScalar, says, item_size, made_of_all, pairs_of, number_pair, said, says_number};
+ghost use Rattle.std.specs.Prelude.{if◌then◌else◌, int_lt, pos, ◌≡◌, ◌≤◌};
+ghost use Rattle.elementwise.specs.Clauses.{BoolScalar, says, item_size, AreAllMade, pairs_of, number_pair, said, says_number};
 
 use crate::bits;
 use crate::kernels::{Kernel, append};
@@ -79,11 +79,9 @@ pub(crate) fn compare<A: Number, B: Number, O: Ordered>(
     requires left { item_size operands.left.descr.now ≡ A.WIDTH }
     requires right { item_size operands.right.descr.now ≡ B.WIDTH }
     requires room { pairs_of operands ≤ block.1 }
-    ensures bytes { result.0 ≡ block.0
-        ++ made_of_all
-        (number_pair (A.scalar O.order) (B.scalar O.order) BoolScalar (says_number comparison))
-        operands.entry }
-    ensures left { pairs_of operands.entry + result.1 ≡ block.1 }
+    ensures { AreAllMade
+        (number_pair (A.scalar O.order) (B.scalar O.order) BoolScalar (says_number comparison)) 1
+        operands.entry block result }
 {
     match comparison {
         Comparison::Equal => append::<Same, A, B, bool, O, LowFirst>(block, operands),

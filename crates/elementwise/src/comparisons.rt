@@ -3,7 +3,6 @@ ghost use Rattle.std.specs.Prelude.{IfOk, length, map, ◌≡◌, ◌≤◌};
 ghost use Rattle.elementwise.specs.Clauses.{ScalarDescr, compared_item, compared_result, pairwise, stretched_items, Bytes, C, Gives, IsNumber, decode, encode_item, item_from, item_size, max_bytes, offsets, offsets_in, owned_items, size, AreCompared, AreComparedWith, AreComparable, IsComparing, flat_map};
 
 use crate::apply::make_cast;
-use crate::byte_string_pairs::ComparingTexts;
 use crate::byte_strings::trimmed_in;
 use crate::operands::{Broadcast, made, note_slice, read_as, spread, without_repeats};
 use crate::pairing::{Pairing, Work};
@@ -19,12 +18,12 @@ use std::alloc::{AllocError, Global};
 
 /// How numbers of two scalars are compared: cast to the smallest scalar that holds both. If there
 /// is none, both are integers of eight bytes, one signed and the other unsigned.
-fn number_pairing<'a>(
+fn number_pairing(
     comparison: Comparison,
     left: &Scalar,
     right: &Scalar,
-    both: Broadcast<'a>,
-) -> Pairing<'a>
+    both: Broadcast<'_>,
+) -> Pairing
     requires left { IsNumber left.now }
     requires right { IsNumber right.now }
     ensures { IsComparing comparison left.now right.now result }
@@ -80,11 +79,11 @@ fn compare_texts(
     let _items = shape.items();
     let cut = trimmed_in(alloc, left, width, other_width, shape)?;
     let other_cut = trimmed_in(alloc, right, other_width, width, shape)?;
-    let pairing = Pairing::Texts(ComparingTexts {
+    let pairing = Pairing::Texts {
         comparison,
         width: cut,
         other_width: other_cut,
-    });
+    };
     let descr = Descr::Scalar(Scalar::Bytes(cut));
     let other_descr = Descr::Scalar(Scalar::Bytes(other_cut));
     let first = stretched_to(alloc, left.layout, shape)?;

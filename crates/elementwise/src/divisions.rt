@@ -2,10 +2,10 @@
 //! used.
 ghost use Rattle.elementwise.specs.Bits.{IsTruth};
 ghost use Rattle.elementwise.specs.Operations.{binary, exact, floor_quotient};
-ghost use Rattle.std.specs.Prelude.{IfSome, true, unsigned_abs, ℕ, ◌*◌, ◌++◌, ◌+◌, ◌-◌, ◌/◌, ◌<◌, ◌^◌, ◌≡◌, ◌≤◌};
-ghost use Rattle.elementwise.specs.Words.{Little, Scalar, integer, is_bool, joined, low_bits, number_of_side};
+ghost use Rattle.std.specs.Prelude.{IfSome, true, unsigned_abs, ℕ, ◌*◌, ◌-◌, ◌/◌, ◌<◌, ◌^◌, ◌≡◌, ◌≤◌};
+ghost use Rattle.elementwise.specs.Words.{Little, Scalar, integer, is_bool, low_bits, number_of_side};
 ghost use Rattle.elementwise.specs.inside.PairPasses.{division_op, number_pair};
-ghost use Rattle.elementwise.specs.inside.Sides.{made_of, pair_count};
+ghost use Rattle.elementwise.specs.inside.Sides.{pair_count, AreMade};
 
 use crate::bits::{is_negative, magnitude};
 use crate::byte_divisions::push_divided_bytes;
@@ -66,11 +66,9 @@ fn push_divided<const LEAVES: bool, N: Number, O: Ordered>(
     requires each { (k : ℕ) → k < pair_count pairs
         → number_of_side (N.scalar O.order) pairs.right k ≡ integer N.SIGNED 8 divisor.bits }
     requires room { pair_count pairs * N.WIDTH ≤ block.1 }
-    ensures bytes { result.0 ≡ block.0
-        ++ joined (made_of
+    ensures { AreMade
         (number_pair (N.scalar O.order) (N.scalar O.order) (N.scalar Little)
-        (binary (division_op LEAVES) (N.scalar Little))) pairs.entry) (pair_count pairs.entry) }
-    ensures left { pair_count pairs.entry * N.WIDTH + result.1 ≡ block.1 }
+        (binary (division_op LEAVES) (N.scalar Little))) N.WIDTH pairs.entry block result }
 {
     note_slice(pairs.left.bytes);
     let mut block = block;

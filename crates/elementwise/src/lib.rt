@@ -5,7 +5,6 @@ mod apply;
 mod bits;
 mod byte_comparisons;
 mod byte_divisions;
-mod byte_string_pairs;
 mod byte_strings;
 mod cast_kernels;
 mod castable;

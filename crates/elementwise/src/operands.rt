@@ -89,7 +89,7 @@ fn columns(alloc: Global, left: &Layout, right: &Layout) -> Result<Option<Layout
 /// Combines all pairs row by row.
 fn made_by_rows(
     alloc: Global,
-    pairing: &Pairing<'_>,
+    pairing: &Pairing,
     operands: Operands<'_, '_>,
 ) -> Result<Owned, AllocError>
     requires { AreMatched pairing.now operands }
@@ -108,7 +108,7 @@ fn made_by_rows(
 #[inline(never)]
 fn made_of_many(
     alloc: Global,
-    pairing: &Pairing<'_>,
+    pairing: &Pairing,
     operands: Operands<'_, '_>,
 ) -> Result<Owned, AllocError>
     requires { AreMatched pairing.now operands }
@@ -149,7 +149,7 @@ fn made_of_many(
 /// Combines all pairs.
 pub(crate) fn made(
     alloc: Global,
-    pairing: &Pairing<'_>,
+    pairing: &Pairing,
     operands: Operands<'_, '_>,
 ) -> Result<Owned, AllocError>
     requires { AreMatched pairing.now operands }

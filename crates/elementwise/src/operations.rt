@@ -1,7 +1,7 @@
 //! Operations on operands of one number type, and the kernels that do them. Each operation works on
 //! the lowest 64 bits, of which a number keeps as many as its type has.
-ghost use Rattle.std.specs.Prelude.{◌≡◌, ◌+◌, ◌*◌, ◌≤◌, ◌++◌, true, ◌-ℤ◌};
-ghost use Rattle.elementwise.specs.Clauses.{Little, size, integer, wrap, item_size, Add, Subtract, Multiply, And, Or, Xor, ShiftLeft, ShiftRight, is_bool, binary, serves_bools, division_op, number_pair, pairs_of, made_of_all, target, meaning, IsWork};
+ghost use Rattle.std.specs.Prelude.{◌≡◌, ◌*◌, ◌≤◌, true, ◌-ℤ◌};
+ghost use Rattle.elementwise.specs.Clauses.{Little, size, integer, wrap, item_size, Add, Subtract, Multiply, And, Or, Xor, ShiftLeft, ShiftRight, is_bool, binary, serves_bools, division_op, number_pair, pairs_of, AreAllMade, target, meaning, IsWork};
 
 use crate::bits;
 use crate::cast_kernels::cast;
@@ -147,10 +147,9 @@ impl<'a, 'b> NumberTask for Working<'a, 'b> {
         × (item_size t.operands.right.descr.now ≡ size scalar)
         × (pairs_of t.operands * size (target t.work scalar) ≤ t.block.1) };
 
-    ghost Gives = { λ t scalar block.
-        (block.0 ≡ t.block.0 ++ made_of_all
-        (number_pair scalar scalar (target t.work scalar) (meaning t.work scalar)) t.operands)
-        × (pairs_of t.operands * size (target t.work scalar) + block.1 ≡ t.block.1) };
+    ghost Gives = { λ t scalar block. AreAllMade
+        (number_pair scalar scalar (target t.work scalar) (meaning t.work scalar))
+        (size (target t.work scalar)) t.operands t.block block };
 
     #[inline(never)]
     fn run<N: Number, O: Ordered>(self) -> BlockBuilder {

@@ -1,9 +1,8 @@
 //! Combines the items of two operands, pair by pair.
-ghost use Rattle.std.specs.Prelude.{◌*◌, ◌++◌, ◌+◌, ◌≡◌, ◌≤◌};
+ghost use Rattle.std.specs.Prelude.{◌*◌, ◌≡◌, ◌≤◌};
 ghost use Rattle.elementwise.specs.Words.{item_size, size};
-ghost use Rattle.elementwise.specs.inside.Operands.{made_of_all, pairs_of};
+ghost use Rattle.elementwise.specs.inside.Operands.{AreAllMade, pairs_of};
 
-use crate::byte_string_pairs::{ComparingTexts, ComparingWith};
 use crate::comparison_kernels::compare;
 use crate::operations::Working;
 use crate::promotion::integer_type;
@@ -28,7 +27,7 @@ pub(crate) enum Work {
 
 /// A function of pairs of values of two scalars.
 #[derive(Clone, Copy)]
-pub(crate) enum Pairing<'a> {
+pub(crate) enum Pairing {
     /// A function of numbers of one scalar.
     Alike {
         work: Work,
@@ -40,16 +39,15 @@ pub(crate) enum Pairing<'a> {
         comparison: Comparison,
         left_signed: bool,
     },
-    Texts(ComparingTexts),
-    /// A comparison of byte strings with one that does not end with NULs.
-    With {
+    /// A comparison of byte strings of these lengths.
+    Texts {
         comparison: Comparison,
         width: BytesLen,
-        other: &'a [u8],
+        other_width: BytesLen,
     },
 }
 
-impl<'a> Pairing<'a> {
+impl Pairing {
     ghost use Rattle.elementwise.specs.inside.Works.{left_of, right_of, target_of, pair_made, CanPair};
 
     /// The scalar of the first items.
@@ -59,8 +57,7 @@ impl<'a> Pairing<'a> {
         match self {
             Pairing::Alike { scalar, .. } => *scalar,
             Pairing::Signs { left_signed, .. } => integer_type(*left_signed, 8),
-            Pairing::Texts(texts) => Scalar::Bytes(texts.width),
-            Pairing::With { width, .. } => Scalar::Bytes(*width),
+            Pairing::Texts { width, .. } => Scalar::Bytes(*width),
         }
     }
 
@@ -71,8 +68,7 @@ impl<'a> Pairing<'a> {
         match self {
             Pairing::Alike { scalar, .. } => *scalar,
             Pairing::Signs { left_signed, .. } => integer_type(!*left_signed, 8),
-            Pairing::Texts(texts) => Scalar::Bytes(texts.other_width),
-            Pairing::With { width, .. } => Scalar::Bytes(*width),
+            Pairing::Texts { other_width, .. } => Scalar::Bytes(*other_width),
         }
     }
 
@@ -96,8 +92,8 @@ impl<'a> Pairing<'a> {
         requires left { item_size operands.left.descr.now ≡ size (left_of self.now) }
         requires right { item_size operands.right.descr.now ≡ size (right_of self.now) }
         requires room { pairs_of operands * size (target_of self.now) ≤ block.1 }
-        ensures bytes { result.0 ≡ block.0 ++ made_of_all (pair_made self.now) operands.entry }
-        ensures left { pairs_of operands.entry * size (target_of self.now) + result.1 ≡ block.1 }
+        ensures { AreAllMade (pair_made self.now) (size (target_of self.now)) operands.entry block
+            result }
     {
         match self {
             Pairing::Alike { work, scalar } => {
@@ -117,15 +113,7 @@ impl<'a> Pairing<'a> {
                 comparison,
                 left_signed: false,
             } => compare::<u64, i64, LowFirst>(*comparison, block, operands),
-            Pairing::Texts(texts) => push_texts(texts, block, operands),
-            Pairing::With {
-                comparison,
-                other,
-                ..
-            } => {
-                let comparison = *comparison;
-                operands.push_all(&ComparingWith { comparison, other }, block)
-            }
+            Pairing::Texts { comparison, .. } => push_texts(*comparison, block, operands),
         }
     }
 }

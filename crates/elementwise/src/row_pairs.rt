@@ -1,8 +1,9 @@
 //! Combines the items of two operands, row by row.
 ghost use Rattle.elementwise.specs.Results.{pairwise};
-ghost use Rattle.std.specs.Prelude.{IfSome, List, length, ℕ, ◌*◌, ◌++◌, ◌+◌, ◌≡◌, ◌≤◌};
-ghost use Rattle.elementwise.specs.Words.{BeginsWithin, EachWithin, item_size, joined, offsets, run_offsets, concat};
+ghost use Rattle.std.specs.Prelude.{IfSome, List, length, ℕ, ◌*◌, ◌+◌, ◌≡◌, ◌≤◌};
+ghost use Rattle.elementwise.specs.Words.{BeginsWithin, EachWithin, item_size, offsets, run_offsets, concat};
 ghost use Rattle.elementwise.specs.inside.PairPasses.{pair_from};
+ghost use Rattle.elementwise.specs.inside.Added.{AreAdded};
 
 use crate::pairing::Pairs;
 use arrays::Items;
@@ -20,7 +21,7 @@ pub(crate) struct Operands<'a, 'b> {
 
 /// A function of pairs of items, which appends its results.
 pub(crate) trait Pass {
-    ghost use Rattle.elementwise.specs.inside.Sides.{pair_count, made_of};
+    ghost use Rattle.elementwise.specs.inside.Sides.{pair_count, AreMade};
 
     // The bytes of the result for the bytes of two items.
     ghost makes: { Self → List ℕ → List ℕ → List ℕ };
@@ -35,15 +36,13 @@ pub(crate) trait Pass {
     fn push_row(&self, block: BlockBuilder, pairs: Pairs<'_, '_>) -> BlockBuilder
         requires reads { Reads self.now pairs.left.width pairs.right.width }
         requires room { pair_count pairs * width self.now ≤ block.1 }
-        ensures bytes { result.0 ≡ block.0
-            ++ joined (made_of (makes self.now) pairs.entry) (pair_count pairs.entry) }
-        ensures left { pair_count pairs.entry * width self.now + result.1 ≡ block.1 };
+        ensures { AreMade (makes self.now) (width self.now) pairs.entry block result };
 
     ghost not_empty: { (pass : Self) → 1 ≤ width pass };
 }
 
 impl<'a, 'b> Operands<'a, 'b> {
-    ghost use Rattle.elementwise.specs.inside.Operands.{pairs_of, made_of_all};
+    ghost use Rattle.elementwise.specs.inside.Operands.{pairs_of, AreAllMade};
 
     /// All pairs of items as a single row, if they are one.
     pub(crate) fn as_row(self) -> Option<RunPair>
@@ -69,12 +68,12 @@ impl<'a, 'b> Operands<'a, 'b> {
             (item_size self.left.descr.now) row.first.count }
         requires second { EachWithin (length self.right.block.now) row.second.offset row.second.step
             (item_size self.right.descr.now) row.second.count }
-        ensures bytes { result.0 ≡ block.0
-            ++ concat (pairwise
+        ensures { AreAdded (row.first.count * P.width pass.now)
+            (concat (pairwise
             (pair_from (P.makes pass.now) (item_size self.entry.left.descr.now)
             (item_size self.entry.right.descr.now) self.entry.left.block.now
-            self.entry.right.block.now) (run_offsets row.first) (run_offsets row.second)) }
-        ensures left { row.first.count * P.width pass.now + result.1 ≡ block.1 }
+            self.entry.right.block.now) (run_offsets row.first) (run_offsets row.second))) block
+            result }
     {
         let _filled = block.filled();
         let pairs = Pairs {
@@ -99,8 +98,7 @@ impl<'a, 'b> Operands<'a, 'b> {
         requires reads { P.Reads pass.now (item_size self.left.descr.now)
             (item_size self.right.descr.now) }
         requires room { pairs_of self * P.width pass.now ≤ block.1 }
-        ensures bytes { result.0 ≡ block.0 ++ made_of_all (P.makes pass.now) self.entry }
-        ensures left { pairs_of self.entry * P.width pass.now + result.1 ≡ block.1 }
+        ensures { AreAllMade (P.makes pass.now) (P.width pass.now) self.entry block result }
     {
         let mut block = block;
         for row in RunPairs::new(self.left.layout, self.right.layout) {
@@ -114,8 +112,7 @@ impl<'a, 'b> Operands<'a, 'b> {
         requires reads { P.Reads pass.now (item_size self.left.descr.now)
             (item_size self.right.descr.now) }
         requires room { pairs_of self * P.width pass.now ≤ block.1 }
-        ensures bytes { result.0 ≡ block.0 ++ made_of_all (P.makes pass.now) self.entry }
-        ensures left { pairs_of self.entry * P.width pass.now + result.1 ≡ block.1 }
+        ensures { AreAllMade (P.makes pass.now) (P.width pass.now) self.entry block result }
     {
         match self.as_row() {
             Some(row) => self.push_row(pass, block, row),

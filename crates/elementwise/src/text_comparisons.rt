@@ -1,11 +1,10 @@
 //! Comparisons of byte strings, pair by pair. Byte strings of the same length are compared by
 //! words.
 ghost use Rattle.std.proofs.Common.{arith};
-ghost use Rattle.std.specs.Prelude.{length, ℕ, ◌*◌, ◌++◌, ◌+◌, ◌^◌, ◌≡◌, ◌≤◌};
-ghost use Rattle.elementwise.specs.Clauses.{item_size, made_of_all, pairs_of, text_pair, text_said, AreInOrder, IsWordLen};
+ghost use Rattle.std.specs.Prelude.{length, ℕ, ◌*◌, ◌+◌, ◌^◌, ◌≡◌, ◌≤◌};
+ghost use Rattle.elementwise.specs.Clauses.{item_size, AreAllMade, pairs_of, text_pair, text_said, AreInOrder, IsWordLen};
 
-use crate::byte_string_pairs::ComparingTexts;
-use crate::byte_strings::{shared_words, word_at};
+use crate::byte_strings::{shared_words, without_nuls, word_at};
 use crate::comparison_kernels::{compare, is_said};
 use crate::operands::note_slice;
 use crate::pairing::Pairs;
@@ -15,24 +14,27 @@ use machine_numbers::{HighFirst, LowFirst, Number};
 use raw_block::BlockBuilder;
 use std::marker::PhantomData;
 
-/// How byte strings of one length are compared as numbers.
+/// How two byte strings are compared.
 trait Deciding {
     // The lengths that it accepts.
-    ghost Fits: { ℕ → Type 0 };
+    ghost Fits: { ℕ → ℕ → Type 0 };
 
-    /// A number for each of two byte strings; the numbers decide how the strings compare.
-    fn numbers(left: &[u8], right: &[u8]) -> (u128, u128)
-        requires even { length left.now ≡ length right.now }
-        requires fits { Fits (length left.now) }
+    /// Whether the first byte string is less than the second, and whether it is greater.
+    fn order(left: &[u8], right: &[u8]) -> (bool, bool)
+        requires { Fits (length left.now) (length right.now) }
         ensures { AreInOrder result left.now right.now };
 }
 
-/// By words of this length at both ends, if together they cover the string. If the first words are
-/// equal, so are the bytes that the last words share with them. No branch depends on the bytes.
+/// Those of one length, by words of this length at both ends, if together they cover the string. If
+/// the first words are equal, so are the bytes that the last words share with them. No branch
+/// depends on the bytes.
 struct Ends<const LEN: usize>;
 
-/// By the first words that differ, or else the last eight bytes.
+/// Those of one length, by the first words that differ, or else the last eight bytes.
 struct Longer;
+
+/// Those of any length, without the NULs at their ends.
+struct Trimmed;
 
 /// Two words as one number: the second decides only if the first words are equal.
 #[inline(always)]
@@ -43,33 +45,47 @@ fn two_words(first: u64, last: u64) -> u128
 }
 
 impl<const LEN: usize> Deciding for Ends<LEN> {
-    ghost Fits = { λ n. IsWordLen LEN × (LEN ≤ n) × (n ≤ 2 * LEN) };
+    ghost Fits = { λ n m. (n ≡ m) × IsWordLen LEN × (LEN ≤ n) × (n ≤ 2 * LEN) };
 
     #[inline(always)]
-    fn numbers(left: &[u8], right: &[u8]) -> (u128, u128) {
+    fn order(left: &[u8], right: &[u8]) -> (bool, bool) {
         let end = left.len() - LEN;
-        let first = word_at::<LEN>(left, 0);
-        let second = word_at::<LEN>(right, 0);
-        let first_end = word_at::<LEN>(left, end);
-        let second_end = word_at::<LEN>(right, end);
-        (two_words(first, first_end), two_words(second, second_end))
+        let first = two_words(word_at::<LEN>(left, 0), word_at::<LEN>(left, end));
+        let second = two_words(word_at::<LEN>(right, 0), word_at::<LEN>(right, end));
+        (first < second, second < first)
     }
 }
 
 impl Deciding for Longer {
-    ghost Fits = { λ n. 8 ≤ n };
+    ghost Fits = { λ n m. (n ≡ m) × (8 ≤ n) };
 
     #[inline(always)]
-    fn numbers(left: &[u8], right: &[u8]) -> (u128, u128) {
+    fn order(left: &[u8], right: &[u8]) -> (bool, bool) {
         let at = shared_words(left, right).min(left.len() - 8);
-        (
-            u128::from(word_at::<8>(left, at)),
-            u128::from(word_at::<8>(right, at)),
-        )
+        let first = word_at::<8>(left, at);
+        let second = word_at::<8>(right, at);
+        (first < second, second < first)
     }
 }
 
-/// A comparison by the deciding numbers. It is `HOLDS` if the first is less than the second and
+impl Deciding for Trimmed {
+    ghost Fits = { λ _ _. Unit {0} };
+
+    fn order(left: &[u8], right: &[u8]) -> (bool, bool) {
+        let left = without_nuls(left);
+        let right = without_nuls(right);
+        let at = shared_words(left, right);
+        if at + 8 <= left.len() && at + 8 <= right.len() {
+            let first = word_at::<8>(left, at);
+            let second = word_at::<8>(right, at);
+            return (first < second, second < first);
+        }
+        let order = left[at..].cmp(&right[at..]);
+        (order.is_lt(), order.is_gt())
+    }
+}
+
+/// A comparison of byte strings. It is `HOLDS` if the first is less than the second and
 /// `BELOW` is true, or if it is greater and `ABOVE` is true; otherwise the other bool.
 #[derive_where(Clone, Copy)]
 struct Texts<const BELOW: bool, const ABOVE: bool, const HOLDS: bool, D>(PhantomData<D>);
@@ -78,7 +94,7 @@ impl<const BELOW: bool, const ABOVE: bool, const HOLDS: bool, D: Deciding> Pass
     for Texts<BELOW, ABOVE, HOLDS, D> {
     ghost makes = { λ _. text_said BELOW ABOVE HOLDS };
 
-    ghost Reads = { λ _ width width'. (width ≡ width') × D.Fits width };
+    ghost Reads = { λ _. D.Fits };
 
     ghost width = { λ _. 1 };
 
@@ -87,25 +103,24 @@ impl<const BELOW: bool, const ABOVE: bool, const HOLDS: bool, D: Deciding> Pass
     fn push_row(&self, block: BlockBuilder, pairs: Pairs<'_, '_>) -> BlockBuilder {
         let mut block = block;
         for k in 0..pairs.left.run.count {
-            let (first, second) = D::numbers(pairs.left.item(k), pairs.right.item(k));
-            let holds = is_said::<BELOW, ABOVE, HOLDS>(first < second, second < first);
+            let (below, above) = D::order(pairs.left.item(k), pairs.right.item(k));
+            let holds = is_said::<BELOW, ABOVE, HOLDS>(below, above);
             holds.push::<LowFirst>(&mut block);
         }
         block
     }
 }
 
-/// Appends the result of a comparison for each pair of byte strings, by the deciding numbers.
+/// Appends the result of a comparison for each pair of byte strings, which is decided so.
 fn push_decided<D: Deciding>(
     comparison: Comparison,
     block: BlockBuilder,
     operands: Operands<'_, '_>,
 ) -> BlockBuilder
-    requires even { item_size operands.left.descr.now ≡ item_size operands.right.descr.now }
-    requires fits { D.Fits (item_size operands.left.descr.now) }
+    requires fits { D.Fits (item_size operands.left.descr.now)
+        (item_size operands.right.descr.now) }
     requires room { pairs_of operands ≤ block.1 }
-    ensures bytes { result.0 ≡ block.0 ++ made_of_all (text_pair comparison) operands.entry }
-    ensures left { pairs_of operands.entry + result.1 ≡ block.1 }
+    ensures { AreAllMade (text_pair comparison) 1 operands.entry block result }
 {
     let by = PhantomData;
     match comparison {
@@ -120,21 +135,16 @@ fn push_decided<D: Deciding>(
 
 /// Appends the result of a comparison for each pair of byte strings.
 pub(crate) fn push_texts(
-    texts: &ComparingTexts,
+    comparison: Comparison,
     block: BlockBuilder,
     operands: Operands<'_, '_>,
 ) -> BlockBuilder
-    requires left { item_size operands.left.descr.now ≡ texts.now.width }
-    requires right { item_size operands.right.descr.now ≡ texts.now.other_width }
-    requires room { pairs_of operands ≤ block.1 }
-    ensures bytes { result.0 ≡ block.0
-        ++ made_of_all (text_pair texts.now.comparison) operands.entry }
-    ensures left { pairs_of operands.entry + result.1 ≡ block.1 }
+    requires { pairs_of operands ≤ block.1 }
+    ensures { AreAllMade (text_pair comparison) 1 operands.entry block result }
 {
-    let comparison = texts.comparison;
-    let width = texts.width.get();
-    if texts.other_width.get() != width {
-        return operands.push_all(texts, block);
+    let width = operands.left.descr.size();
+    if operands.right.descr.size() != width {
+        return push_decided::<Trimmed>(comparison, block, operands);
     }
     note_slice(operands.left.block.bytes());
     note_slice(operands.right.block.bytes());

@@ -3,6 +3,7 @@ use Rattle.std.specs.Prelude.{◌≡◌, ◌≤◌, ◌*◌, ℕ, List, [], ◌�
 use Rattle.elementwise.specs.Words.{concat, LeafValue, item_size, items, count, offsets, size, max_bytes, Owned, ScalarDescr}
 use Rattle.elementwise.specs.Results.{pairwise, value_in}
 use Rattle.elementwise.specs.inside.PairPasses.{pair_from}
+use Rattle.elementwise.specs.inside.Added.{AreAdded}
 use Rattle.elementwise.specs.inside.Made.{IsMade}
 use Rattle.elementwise.specs.inside.Works.{left_of, right_of, target_of, gives, CanPair}
 use Rattle.elementwise.specs.declared.pairing.Pairing.{Pairing}
@@ -17,6 +18,10 @@ abbrev pub made_of_all : (List ℕ → List ℕ → List ℕ) → Operands → L
 made_of_all f o =
     let make = pair_from f (item_size o.left.descr.now) (item_size o.right.descr.now) o.left.block.now o.right.block.now in
     concat (pairwise make (offsets o.left.layout.now) (offsets o.right.layout.now))
+
+-- the results of `f` for all pairs, of `width` bytes each, are appended to a block
+abbrev pub AreAllMade : (List ℕ → List ℕ → List ℕ) → ℕ → Operands → List ℕ × ℕ → List ℕ × ℕ → Type 0
+AreAllMade f width o = AreAdded (pairs_of o * width) (made_of_all f o)
 
 -- the items that a pairing makes of each pair
 abbrev pub all_made : Pairing → Operands → List (List LeafValue)

@@ -1,5 +1,5 @@
 -- Byte strings that are compared as numbers.
-use Rattle.std.specs.Prelude.{◌≡◌, ◌≤◌, ◌⊎◌, ℕ, nat_lt, false, List, All}
+use Rattle.std.specs.Prelude.{◌≡◌, ◌≤◌, ◌⊎◌, ℕ, Bool, false, List, All}
 use Rattle.elementwise.specs.Words.{Big, Scalar, Byte, Int, width_size, without_nuls, item_at, Items, offsets}
 use Rattle.elementwise.specs.Comparisons.{text_below}
 
@@ -13,9 +13,9 @@ IsWord _ n = ⊥
 abbrev pub IsWordLen : ℕ → Type 0
 IsWordLen n = (n ≡ 2) ⊎ (n ≡ 4) ⊎ (n ≡ 8)
 
--- two numbers have the same order as two byte strings, whose NULs at the end do not count
-abbrev pub AreInOrder : ℕ × ℕ → List ℕ → List ℕ → Type 0
-AreInOrder n x y = (nat_lt n.0 n.1 ≡ text_below (without_nuls x) (without_nuls y)) × (nat_lt n.1 n.0 ≡ text_below (without_nuls y) (without_nuls x))
+-- whether the first byte string is below the second, and whether it is above; NULs at the ends do not count
+abbrev pub AreInOrder : Bool × Bool → List ℕ → List ℕ → Type 0
+AreInOrder b x y = (b.0 ≡ text_below (without_nuls x) (without_nuls y)) × (b.1 ≡ text_below (without_nuls y) (without_nuls x))
 
 -- byte strings of `width` bytes lose only NULs at the end if they are cut to `n` bytes
 abbrev pub CanCut : Items → ℕ → ℕ → Type 0

@@ -1,12 +1,12 @@
 -- What is computed from the values of two items.
 use Rattle.std.specs.Prelude.{◌≡◌, ℕ, ℤ, List, not, true, false}
-use Rattle.elementwise.specs.Words.{Little, Eight, Scalar, Int, Bytes, LeafValue, number, text, Descr, Comparison, IsNumber, number_of, wrap, little, BoolScalar, ScalarDescr}
+use Rattle.elementwise.specs.Words.{Little, Eight, Scalar, Int, Bytes, LeafValue, number, Descr, Comparison, IsNumber, number_of, wrap, little, BoolScalar, ScalarDescr}
 use Rattle.elementwise.specs.Promotion.{is_division, are_comparable}
 use Rattle.elementwise.specs.Operations.{binary, unary}
 use Rattle.elementwise.specs.inside.PairPasses.{says_number, compared_value, truth_value, value_pair, Holds}
 use Rattle.elementwise.specs.declared.pairing.Work.{Work}
 use Rattle.elementwise.specs.declared.pairing.Pairing.{Pairing}
-use Rattle.elementwise.specs.declared.pairing.Pairing.TheVariants.{Alike, Signs, Texts, With}
+use Rattle.elementwise.specs.declared.pairing.Pairing.TheVariants.{Alike, Signs, Texts}
 use Rattle.elementwise.specs.declared.pairing.Work.TheVariants.{Combine, Change, Compare, Cast}
 
 -- ---- for numbers of one scalar
@@ -38,28 +38,24 @@ IsWork (Cast to) = IsNumber to
 abbrev pub left_of : Pairing → Scalar
 left_of (Alike work scalar) = scalar
 left_of (Signs comparison left_signed) = Int left_signed Eight Little
-left_of (Texts texts) = Bytes texts.width
-left_of (With comparison width other) = Bytes width
+left_of (Texts comparison width width') = Bytes width
 
 abbrev pub right_of : Pairing → Scalar
 right_of (Alike work scalar) = scalar
 right_of (Signs comparison left_signed) = Int (not left_signed) Eight Little
-right_of (Texts texts) = Bytes texts.other_width
-right_of (With comparison width other) = Bytes width
+right_of (Texts comparison width width') = Bytes width'
 
 -- the scalar of the results
 abbrev pub target_of : Pairing → Scalar
 target_of (Alike work scalar) = target work scalar
 target_of (Signs comparison left_signed) = BoolScalar
-target_of (Texts texts) = BoolScalar
-target_of (With comparison width other) = BoolScalar
+target_of (Texts comparison width width') = BoolScalar
 
 -- the result for two values
 abbrev pub gives : Pairing → LeafValue → LeafValue → LeafValue
 gives (Alike work scalar) x y = number (meaning work scalar (number_of x) (number_of y))
 gives (Signs comparison left_signed) x y = compared_value comparison x y
-gives (Texts texts) x y = truth_value texts.comparison x y
-gives (With comparison width other) x y = truth_value comparison x (text other.now)
+gives (Texts comparison width width') x y = truth_value comparison x y
 
 -- the result for the bytes of two items, as bytes
 abbrev pub pair_made : Pairing → List ℕ → List ℕ → List ℕ
@@ -69,8 +65,7 @@ pair_made p = value_pair (left_of p) (right_of p) (target_of p) (gives p)
 abbrev pub CanPair : Pairing → Type 0
 CanPair (Alike work scalar) = IsNumber scalar × IsWork work
 CanPair (Signs comparison left_signed) = Unit {0}
-CanPair (Texts texts) = Unit {0}
-CanPair (With comparison width other) = Unit {0}
+CanPair (Texts comparison width width') = Unit {0}
 
 -- ---- comparisons
 

@@ -1,5 +1,5 @@
-use Rattle.std.proofs.Common.{rules, sym, ap, ◌∙◌}
-use Rattle.elementwise.proofs.Words.{integer, low_bits, exact, floor_quotient, division_op}
+use Rattle.std.proofs.Common.{sym, ap, ◌∙◌}
+use Rattle.elementwise.proofs.Words.{integer, low_bits, exact, division_op}
 use Rattle.elementwise.proofs.BitLaws.{rest_low}
 use Rattle.elementwise.proofs.bits.division.Goals as goal
 

@@ -1,13 +1,12 @@
-use Rattle.std.proofs.Common.{◌≡◌, ◌+◌, ◌*◌, ◌<◌, ◌≤◌, ◌++◌, suc, false, pos, sym, ap, subst, ◌∙◌, append_assoc, arith, unsigned_abs, not, ◌==◌, suc-mul, add-mul, mul-le-mul_right}
-use Rattle.elementwise.proofs.Words.{Little, integer, low_bits, number, encode, exact, joined, binary, division_op, number_pair, made_of, pair_count}
+use Rattle.std.proofs.Common.{◌≡◌, ◌<◌, ◌++◌, false, pos, sym, ap, subst, ◌∙◌, unsigned_abs, not, ◌==◌}
+use Rattle.elementwise.proofs.Words.{Little, integer, low_bits, number, encode, exact, binary, division_op, number_pair, made_of}
+use Rattle.elementwise.proofs.AddedLaws.{one-more, room-for}
 use Rattle.elementwise.proofs.HeldLaws.{side-small}
 use Rattle.elementwise.proofs.WordLaws.{are_bits, applied}
 use Rattle.elementwise.proofs.byte_divisions.push_divided_bytes.Goals as goal
 
 pub push-requires : goal.push-requires
-push-requires g c =
-    let most : suc c.loop-k.k * g.N.Number.WIDTH ≤ pair_count c.args.pairs * g.N.Number.WIDTH = mul-le-mul_right g.N.Number.WIDTH c.loop-k-test.true in
-    omega (arith, most, suc-mul c.loop-k.k g.N.Number.WIDTH, c.requires.room, c.loop-k.invariant.left)
+push-requires g c = room-for g.N.Number.WIDTH _ c.loop-k.k _ _ c.loop-k-test.true c.requires.room c.loop-k.invariant.left
 
 pub quotient-requires-clause-left : goal.quotient-requires-clause-left
 quotient-requires-clause-left g c =
@@ -35,8 +34,4 @@ loop-k-preserved g c =
     (c.of_bits.ensures Little (pos c.division-bits.result) (are_bits c.division-bits.result c.division-bits.type_inv))
     (c.division-bits.ensures false to c.quotient.ensures ∙ λ i. low_bits 8 (exact op to (left i) (right i))) in
     let is = ap (λ z. encode to (number z)) (value ∙ λ i. binary op to (c.number.ensures i) (c.number-in-loop-k.ensures i)) in
-    let next : suc k ≡ k + 1 = omega arith in
-    record {
-      bytes = c.push.ensures.bytes ∙ (λ i. c.loop-k.invariant.bytes i ++ is i) ∙ append_assoc c.args.block.0 (joined made k) (made k) ∙ ap (λ m. c.args.block.0 ++ joined made m) next;
-      left = let parts = add-mul k 1 g.N.Number.WIDTH in omega (arith, parts, c.push.ensures.left, c.loop-k.invariant.left);
-    }
+    one-more made g.N.Number.WIDTH k c.args.block c.loop-k.block _ c.loop-k.invariant (record { bytes = c.push.ensures.bytes ∙ ap (λ l. c.loop-k.block.0 ++ l) is; left = c.push.ensures.left })

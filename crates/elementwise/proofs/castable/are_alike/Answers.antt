@@ -1,4 +1,4 @@
-use Rattle.std.proofs.Common.{◌≡◌, sym, subst, inl, inr, arith, rules}
+use Rattle.std.proofs.Common.{◌≡◌, subst, inl, inr, arith, rules}
 use Rattle.elementwise.proofs.Words.{cases_lt, leaf_at}
 use Rattle.elementwise.proofs.AlikeLaws.{alike}
 use Rattle.elementwise.proofs.castable.are_alike.Goals as goal

@@ -6,9 +6,9 @@ use Rattle.elementwise.proofs.casts.cast_band.Given as goal
 -- the first leaves are cast, and there are zeros between leaves
 abbrev pub invariant-loop-k : goal.invariant-loop-k
 invariant-loop-k l =
-    let os = run_offsets l.from.items.run in
+    let os = run_offsets l.from.run in
     record {
       len : length l.rows ≡ length os * item_size l.to;
-      done : (k : ℕ) → k < l.k → IsLeafCast l.from.descr.now l.to l.from.items.bytes.now os l.rows k;
+      done : (k : ℕ) → k < l.k → IsLeafCast l.descr l.to l.from.bytes.now os l.rows k;
       zeros : HaveZeros l.to (length os) l.rows;
     }

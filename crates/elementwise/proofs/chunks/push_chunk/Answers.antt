@@ -1,5 +1,6 @@
-use Rattle.std.proofs.Common.{◌≡◌, ◌+◌, ◌*◌, ◌≤◌, ◌++◌, List, [], ◌∷◌, All, length, map, refl, sym, ap, subst, ◌∙◌, arith}
+use Rattle.std.proofs.Common.{◌≡◌, ◌+◌, ◌*◌, ◌≤◌, List, [], ◌∷◌, All, length, map, refl, sym, ap, subst, ◌∙◌, arith}
 use Rattle.elementwise.proofs.Words.{flat_map, ScalarDescr, LeafValue, count, encode_item, item_from, item_size, items, size, cast_item, pairwise, value_in, Operands, run_items, run_part, made_of_all, left_of, right_of, target_of, gives, pair_made}
+use Rattle.elementwise.proofs.AddedLaws.{added-as}
 use Rattle.elementwise.proofs.ChunkLaws.{part-inside, many_left, many_right}
 use Rattle.elementwise.proofs.PairLaws.{pairwise-map}
 use Rattle.elementwise.proofs.PairedLaws.{all_paired}
@@ -39,8 +40,8 @@ invariant_of-operands c = record {
   even = c.items.ensures.shape ∙ c.in_ok-cast.ensures.shape ∙ c.in_ok-near.ensures.shape ∙ sym (c.items-2.ensures.shape ∙ c.in_ok-other.ensures.shape ∙ c.in_ok-far.ensures.shape);
 }
 
-pub returns-clause-bytes : goal.returns-clause-bytes
-returns-clause-bytes c =
+pub returns : goal.returns
+returns c =
     let p = c.args.pairing.now in
     let r = c.args.runs in
     let k = c.args.chunk.first in
@@ -59,13 +60,8 @@ returns-clause-bytes c =
     let encoded = (all_paired p o c.requires.can.can
     (c.items.ensures.descr ∙ c.in_ok-cast.ensures.descr ∙ ap ScalarDescr c.left.ensures) (c.items-2.ensures.descr ∙ c.in_ok-other.ensures.descr ∙ ap ScalarDescr c.right.ensures)
     (made_of_all (pair_made p) o) refl).2 in
-    c.push.ensures.bytes
-    ∙ ap (λ bytes. c.args.block.0 ++ bytes)
+    let one : count (n ∷ []) ≡ n = omega arith in
+    let many : count c.items.result.layout.now.shape ≡ n = ap count (c.items.ensures.shape ∙ c.in_ok-cast.ensures.shape ∙ c.in_ok-near.ensures.shape) ∙ one in
+    added-as _ _ _ _ c.args.block c.push.result c.push.ensures (ap (λ m. m * size (target_of p)) many)
     (encoded ∙ ap (flat_map (encode_item (ScalarDescr (target_of p))))
     ((λ i. pairwise make (first i) (second i)) ∙ pairwise-map make cast cast' (run_items x (run_part r.left k n)) (run_items y (run_part r.right k n))))
-
-pub returns-clause-left : goal.returns-clause-left
-returns-clause-left c =
-    let one : count (c.args.chunk.count ∷ []) ≡ c.args.chunk.count = omega arith in
-    let many : count c.items.result.layout.now.shape ≡ c.args.chunk.count = ap count (c.items.ensures.shape ∙ c.in_ok-cast.ensures.shape ∙ c.in_ok-near.ensures.shape) ∙ one in
-    (λ i. sym many i * size (target_of c.args.pairing.now) + c.push.result.1) ∙ c.push.ensures.left

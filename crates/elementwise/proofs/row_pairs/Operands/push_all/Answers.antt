@@ -1,5 +1,6 @@
 use Rattle.std.proofs.Common.{◌≡◌, ◌+◌, ◌*◌, ◌≤◌, All, length, sym, ap, subst, ◌∙◌, arith}
-use Rattle.elementwise.proofs.Words.{item_size, count, length-offsets, length-run_offsets, run-within, pairs_of}
+use Rattle.elementwise.proofs.Words.{item_size, count, length-offsets, length-run_offsets, run-within, pairs_of, concat, pairwise, pair_from}
+use Rattle.elementwise.proofs.AddedLaws.{added-as}
 use Rattle.elementwise.proofs.row_pairs.Operands.push_all.Goals as goal
 
 pub push_row-requires-clause-room : goal.push_row-requires-clause-room
@@ -28,9 +29,10 @@ push_row-requires-clause-second g c =
     let width = item_size right.descr.now in
     run-within (length right.block.now) width c.in-Some.row.second c.in-Some.ensures.second_lies (subst (All (λ offset. offset + width ≤ length right.block.now)) (sym c.in-Some.ensures.second) right.inside)
 
-pub returns-in-Some-clause-left : goal.returns-in-Some-clause-left
-returns-in-Some-clause-left g c =
+pub returns-in-Some : goal.returns-in-Some
+returns-in-Some g c =
     let row = c.in-Some.row in
-    let l = c.args.self.left.layout.now in
-    let few : row.first.count ≡ pairs_of c.args.self = sym (length-run_offsets row.first) ∙ ap length c.in-Some.ensures.first ∙ length-offsets l in
-    omega (arith, ap (λ n. n * g.P.Pass.width c.args.pass.now) few, c.push_row.ensures.left)
+    let o = c.args.self in
+    let few : row.first.count ≡ pairs_of o = sym (length-run_offsets row.first) ∙ ap length c.in-Some.ensures.first ∙ length-offsets o.left.layout.now in
+    let make = pair_from (g.P.Pass.makes c.args.pass.now) (item_size o.left.descr.now) (item_size o.right.descr.now) o.left.block.now o.right.block.now in
+    added-as _ _ _ _ c.args.block c.push_row.result c.push_row.ensures (ap (λ n. n * g.P.Pass.width c.args.pass.now) few) (λ i. concat (pairwise make (c.in-Some.ensures.first i) (c.in-Some.ensures.second i)))

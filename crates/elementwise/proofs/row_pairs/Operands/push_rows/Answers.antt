@@ -1,4 +1,4 @@
-use Rattle.std.proofs.Common.{◌≡◌, ◌+◌, ◌*◌, ◌≤◌, ◌++◌, All, length, sym, ap, subst, ◌∙◌, arith}
+use Rattle.std.proofs.Common.{◌≡◌, ◌+◌, ◌*◌, ◌≤◌, ◌++◌, All, length, sym, ap, subst, ◌∙◌, arith, rules}
 use Rattle.elementwise.proofs.Words.{concat, All-rest, item_size, EachWithin, max_bytes, offsets, length-offsets, run_pairs, runs-within, next_pair, pairwise, pair_from, pairs_of}
 use Rattle.elementwise.proofs.PairLaws.{firsts, seconds}
 use Rattle.elementwise.proofs.AppendedLaws.{pushed-next, bytes-next}
@@ -66,3 +66,6 @@ loop-row-preserved g c =
       first = All-rest (λ q. EachWithin (length left) q.first.offset q.first.step width q.first.count) _ _ _ steps inv.first;
       second = All-rest (λ q. EachWithin (length right) q.second.offset q.second.step width' q.second.count) _ _ _ steps inv.second;
     }
+
+pub returns : goal.returns
+returns g c = record { bytes = search rules; left = search rules }

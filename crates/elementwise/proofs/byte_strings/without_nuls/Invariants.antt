@@ -1,6 +1,6 @@
 use Rattle.std.proofs.Common.{◌≡◌, ◌≤◌, length, take}
 use Rattle.elementwise.proofs.Words.{without_nuls}
-use Rattle.elementwise.proofs.byte_string_pairs.without_nuls.Given as goal
+use Rattle.elementwise.proofs.byte_strings.without_nuls.Given as goal
 
 abbrev pub invariant-loop-len : goal.invariant-loop-len
 invariant-loop-len l = record {

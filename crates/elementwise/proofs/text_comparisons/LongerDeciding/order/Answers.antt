@@ -1,14 +1,14 @@
-use Rattle.std.proofs.Common.{nat_lt, ◌≡◌, ◌≤◌, ◌+◌, ◌-◌, ◌⊎◌, inl, inr, length, take, drop, ap, sym, ◌∙◌, arith, rules}
+use Rattle.std.proofs.Common.{◌≡◌, ◌≤◌, ◌+◌, ◌-◌, ◌⊎◌, inl, inr, length, take, drop, ap, sym, ◌∙◌, arith, rules}
 use Rattle.elementwise.proofs.Words.{cases_lt, take-take, item_at}
 use Rattle.elementwise.proofs.WordOrderLaws.{in-order}
-use Rattle.elementwise.proofs.text_comparisons.LongerDeciding.numbers.Goals as goal
+use Rattle.elementwise.proofs.text_comparisons.LongerDeciding.order.Goals as goal
 
 pub returns : goal.returns
 returns c =
     let l = c.args.left.now in
     let r = c.args.right.now in
-    let even = c.requires.even in
-    let some = c.requires.fits in
+    let even = c.requires.0 in
+    let some = c.requires.1 in
     let shared = c.shared_words.ensures in
     let k = c.shared_words.result in
     let at = c.min-at.result in
@@ -20,5 +20,4 @@ returns c =
       | inl near ↦ let is : at ≡ k = omega (arith, c.min-at.ensures, near) in inr (λ same. shared.stops (omega (arith, near)) (omega (arith, near, even)) ((λ i. take 8 (drop (sym is i) l)) ∙ same ∙ λ i. take 8 (drop (is i) r)))
       | inr far ↦ inl (omega (arith, c.min-at.ensures, far, some))
     ] in
-    let order = in-order 8 at l r c.word_at.result c.word_at-2.result even within (λ i. search (rules, c.type_inv.left i)) (λ i. search (rules, c.type_inv.right i)) c.word_at.ensures c.word_at-2.ensures front ends in
-    ((λ i. nat_lt (c.from.ensures i) (c.from-2.ensures i)) ∙ order.0, (λ i. nat_lt (c.from-2.ensures i) (c.from.ensures i)) ∙ order.1)
+    in-order 8 at l r c.word_at-first.result c.word_at-second.result even within (λ i. search (rules, c.type_inv.left i)) (λ i. search (rules, c.type_inv.right i)) c.word_at-first.ensures c.word_at-second.ensures front ends

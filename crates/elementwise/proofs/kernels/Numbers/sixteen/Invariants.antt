@@ -1,6 +1,6 @@
 use Rattle.std.proofs.Common.{◌≡◌, ◌+◌, length, take}
 use Rattle.elementwise.proofs.Words.{joined, number_pair, made_of}
-use Rattle.elementwise.proofs.kernels.made_sixteen.Given as goal
+use Rattle.elementwise.proofs.kernels.Numbers.sixteen.Given as goal
 
 abbrev pub invariant-loop-j : goal.invariant-loop-j
 invariant-loop-j g l =

@@ -1,7 +1,7 @@
 use Rattle.std.proofs.Common.{ℕ, ◌-◌, length, take, reverse, ap, ◌∙◌, arith, rules, tests, nat_eq}
 use Rattle.elementwise.proofs.Words.{YieldsList-from_rev_slice, count_from_yields_List, YieldsList-from_take_while, length-prefix_len, without_nuls}
 use Rattle.elementwise.proofs.TextWordLaws.{fewer-nuls}
-use Rattle.elementwise.proofs.byte_string_pairs.without_nuls.Goals as goal
+use Rattle.elementwise.proofs.byte_strings.without_nuls.Goals as goal
 
 pub loop-len-preserved : goal.loop-len-preserved
 loop-len-preserved c =

@@ -1,11 +1,11 @@
 use Rattle.std.proofs.Common.{rules, w64, length, sym, subst, arith}
 use Rattle.elementwise.proofs.Words.{to_z-of_z, SFits, to_z, of_z, EachWithin, place}
 use Rattle.elementwise.proofs.ColumnLaws.{part-within}
-use Rattle.elementwise.proofs.casts.ItemRun.part.Goals as goal
+use Rattle.elementwise.proofs.casts.part.Goals as goal
 
 pub invariant_of-result : goal.invariant_of-result
 invariant_of-result c =
-    let items = c.args.self.items in
+    let items = c.args.items in
     let run = items.run in
     let n = c.args.count in
     let fits : SFits w64 run.step = search rules in
