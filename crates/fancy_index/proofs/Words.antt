@@ -5,11 +5,11 @@ pub use Rattle.elem_descr.specs.declared.descr.Descr.TheVariants.{Record as Reco
 pub use Rattle.fancy_index.specs.IndexArrays.{IndexArray, are_places, are_within, array_axes_taken, axes_of_kind, cover, covers, covers_kind, is_index, is_within, kind, kind_of, left_over, placed_arrays}
 pub use Rattle.fancy_index.specs.Indexed.{all_axes, as_index_shapes, leads_through, points_shape}
 unfoldable pub use Rattle.fancy_index.specs.Indexed.{indexed, parts_view}
-pub use Rattle.fancy_index.specs.Parts.{Axis, Between, Part, Points, are_points, axes_before, axes_of_part, leads, other_axes, parts, parts_of, point_at, point_shapes, points_of, points_place, side_by_side, true_indexes, wholes}
+pub use Rattle.fancy_index.specs.Parts.{Axis, Between, Part, Points, axes_before, axes_of_part, leads, other_axes, parts, parts_of, point_at, point_shapes, points_of, points_place, side_by_side, true_indexes, wholes}
 pub use Rattle.fancy_index.specs.PlanLaws.{filled-run, put_each-append}
 pub use Rattle.fancy_index.specs.Plans.{GivesPlan, IsPlanOf, Planned, put_each}
 pub use Rattle.fancy_index.specs.Sources.{first_number, index_array_of, index_item_of, index_items, number_from}
-pub use Rattle.fancy_index.specs.Words.{All-back, All-front, AlongAxis, ArePicks, Array, AtAxis, AxisPick, BeginsWithin, BoolScalar, Byte, Bytes, Descr, EachWithin, Ellipsis, Gives, GivesView, IndexItem, IndexOutOfRange, IndexShapes, Int, Integer, IsIndex, IsIndex-append, IsIndex-broadcast, IsIndex-first, IsShape, IsViewOf, Items, Layout, LieWithin, LieWithin-view, MaskLengths, New, NotAnIndexType, OutOfMemory, Refusal, Run, ScalarDescr, ShowsThrough, Slice, TooLarge, TooManyAxes, TooManyIndices, View, ZeroStep, address, address_at, all_stretch, assigned, assigned-append, axis_below, axis_of, broadcast_index, broadcast_index-itself, bytes_eq, can_stretch, check, common_with, count, count-append, decode_item, dot, dot-zeros, entry-first, factors_pos, few-axes, filled, first_of, flat_map, flat_map-flat_map, flat_map_same, from_front, get_or-indexes, get_or-offsets, has_step, index_at, indexes, int_eq, integer, is_place, item_at, item_from, item_size, items_at, joined-items, joined_at, length-index, length-indexes, length-joined_at, length-offsets, length-run, length-run_offsets, lie-within, list_all, map-flat_map, max_axes, max_bytes, max_items, multiples, natural, not_negative, nth-offset, number_at, number_in, pick_shown, picked_index, picked_shape, place, place-at, pos-natural, pos-offset, position, put, rank, rank-lt, row-multiples, row_offsets, run_numbers, run_offsets, same_on_indexes, shape_of-same, signed_number, slice-rest, stretches, truth, view_through, whole, with-fits, zero_filled, ◌>>=◌}
+pub use Rattle.fancy_index.specs.Words.{All-back, All-front, AlongAxis, ArePicks, Array, AtAxis, AxisPick, BeginsWithin, BoolScalar, Byte, Bytes, Descr, EachWithin, Ellipsis, Gives, GivesView, IndexItem, IndexOutOfRange, IndexShapes, Int, Integer, IsIndex, IsIndex-append, IsIndex-broadcast, IsIndex-first, IsShape, IsViewOf, Items, Layout, LieWithin, LieWithin-view, MaskLengths, New, NotAnIndexType, OutOfMemory, Refusal, Run, ScalarDescr, ShowsThrough, Slice, TooLarge, TooManyAxes, TooManyIndices, View, ZeroStep, address, address_at, all_stretch, assigned, assigned-append, axis_below, axis_of, broadcast_index, broadcast_index-itself, bytes_eq, can_stretch, check, common_with, count, count-append, decode_item, dot, dot-zeros, entry-first, factors_pos, few-axes, filled, first_of, flat_map, flat_map-flat_map, flat_map_same, from_front, get_or-indexes, get_or-offsets, has_step, index_at, indexes, int_eq, integer, is_place, item_at, item_from, item_size, items_at, joined-items, joined_at, length-index, length-indexes, length-joined_at, length-offsets, length-run, length-run_offsets, lie-within, list_all, map-flat_map, max_axes, max_bytes, max_items, multiples, natural, not_negative, nth-offset, number_at, number_in, pick_shown, picked_index, picked_shape, place, place-at, pos-natural, pos-offset, position, put, rank, rank-lt, row-multiples, row_offsets, run_numbers, run_offsets, same_on_indexes, shape_of-same, signed_number, stretches, truth, view_through, whole, with-fits, zero_filled, ◌>>=◌}
 unfoldable pub use Rattle.fancy_index.specs.Words.{common_of_two, offsets, picked_view, shape_of, shape_picked, slice_indices, stepped}
 pub use Rattle.fancy_index.specs.declared.index_parts.IndexPart.{IndexPart}
 pub use Rattle.fancy_index.specs.declared.index_parts.IndexPart.TheVariants.{Axis as AxisPart, Between as BetweenPart, Points as PointsPart}
@@ -25,12 +25,12 @@ pub use Rattle.fancy_index.specs.declared.result_axes.Stretch.{Stretch}
 pub use Rattle.fancy_index.specs.declared.result_axes.Stretch.TheVariants.{After, Among, Before}
 pub use Rattle.fancy_index.specs.declared.short_rows.ShortRows.{ShortRows}
 pub use Rattle.fancy_index.specs.inside.Bools.{AreAll, AreBits, LieInBytes, bits, bool_at, bools_in, ranks_from}
-pub use Rattle.fancy_index.specs.inside.Items.{IsOutside, IsWithin, numbers_in}
-pub use Rattle.fancy_index.specs.inside.Kept.{AreWide, CanPush, CanScatter, HavePushed, HavePut, IsRunOf, end_of, first_offsets, moved_offsets, offsets_from, put_packed, row_at, shifted_offsets, short_offsets}
+pub use Rattle.fancy_index.specs.inside.Items.{IsOutside, IsWithin}
+pub use Rattle.fancy_index.specs.inside.Kept.{AreWide, CanPush, CanScatter, HavePushed, IsRunOf, end_of, first_offsets, moved_offsets, offsets_from, put_packed, row_at, shifted_offsets, short_offsets}
 pub use Rattle.fancy_index.specs.inside.Lists.{IsNext, items_left}
 pub use Rattle.fancy_index.specs.inside.Moved.{AreStarts, IsMoved, IsStart, moved_all, moved_offset, shifted, shifted_all}
 pub use Rattle.fancy_index.specs.inside.PartLists.{AddsParts, AreParts, HasPointAt, IsChecked, IsReady, IsReadyAt, IsRest, LeadInto, all_named, first_at, first_offset, is_named, numbers_at, point_of, rest_picks, shown_part, view_if_named}
-pub use Rattle.fancy_index.specs.inside.Places.{gone_on, stand}
+pub use Rattle.fancy_index.specs.inside.Places.{stand}
 pub use Rattle.fancy_index.specs.inside.PointLists.{HavePlaces, IsPart, are_named, named_places, place_of, rank_on, ranks_of, true_ranks, tuple}
 pub use Rattle.fancy_index.specs.inside.Ranks.{IsAtRun, led}
 pub use Rattle.fancy_index.specs.inside.Sums.{AllCanGrow, AreSums, BeginAt, BeginsAt, CanGrow, CanGrowAlong, HaveAllGrown, HaveGrown, HaveGrownFrom, number_along, offset_along, part_offset, partly, point_number, start_of, starts, stretched_ranks, strides_along}

@@ -15,7 +15,7 @@ pub use Rattle.elem_descr.specs.Blocks.{item_from}
 pub use Rattle.elem_descr.specs.Encoding.{integer, number_in, number_of, truth}
 pub use Rattle.elem_descr.specs.IndexItems.{is_ellipsis}
 pub use Rattle.elem_descr.specs.Items.{decode_item, item_size}
-pub use Rattle.elem_descr.specs.ListLaws.{flat_map-flat_map, flat_map_same, map-flat_map, slice-rest}
+pub use Rattle.elem_descr.specs.ListLaws.{flat_map-flat_map, flat_map_same, map-flat_map}
 pub use Rattle.elem_descr.specs.Refusals.{Gives, check, ◌>>=◌}
 unfoldable pub use Rattle.elem_descr.specs.Steps.{stepped}
 pub use Rattle.elem_descr.specs.Values.{LeafValue}

@@ -2,9 +2,9 @@
 ghost use Rattle.std.specs.Prelude.{All, IfOk, IsTrue, List, OnOk, [], get_or, length, pos, replicate, slice_index, take, ℕ, ◌++◌, ◌+◌, ◌<◌, ◌∷◌, ◌≡◌, ◌≤◌, ◌*ℤ◌, ◌/◌, ◌%◌, ◌^◌};
 ghost use Rattle.fancy_index.specs.Clauses.{LieWithin, count, max_bytes, max_items, offsets, run_offsets, truth, Mask, AreAll, AreNoted, IsBlock, LieInBytes, bits, bools_in, ranks_from, kind_in, numbers_in, true_ranks, IsAtRun, led};
 
-use crate::singles::array_at;
 use arrays::{Items, copy, goes_by_columns};
 use elem_descr::MemoryOrder;
+use raw_block::array_at;
 use shape_strides::{Layout, Run, Runs};
 use std::alloc::{AllocError, Global};
 use std::simd::prelude::*;

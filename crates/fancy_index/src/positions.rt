@@ -6,11 +6,10 @@ ghost use Rattle.fancy_index.specs.inside.Items.{kind_in, numbers_in};
 ghost use Rattle.fancy_index.specs.inside.PointLists.{named_places};
 ghost use Rattle.fancy_index.specs.inside.Words.{word, words_along, AreWords, IsNative, LiesIn, IsPlaceOf, ArePlaces};
 
-use crate::singles::array_at;
 use arrays::Items;
 use byteorder::{BigEndian, ByteOrder, LittleEndian};
 use elem_descr::{Descr, Order, Refusal, Scalar};
-use raw_block::{RawBlock, RunI32, RunI64};
+use raw_block::{RawBlock, RunI32, RunI64, array_at};
 use shape_strides::{Run, Runs};
 use std::alloc::Global;
 

@@ -4,19 +4,7 @@ ghost use Rattle.fancy_index.specs.Clauses.{CanPush, CanPut, FitAt, HaveFilled, 
 
 use crate::plan_rows::{Shifted, moved};
 use arrays::{copy_run, packed_run, push_run};
-use raw_block::{BlockBuilder, RawBlock};
-
-/// The `N` bytes that start at `at`, in a single load.
-#[inline(always)]
-pub(crate) fn array_at<const N: usize>(bytes: &[u8], at: usize) -> [u8; N]
-    requires { at + N ≤ length bytes.now }
-    ensures { result ≡ item_at at N bytes.now }
-{
-    match bytes[at..at + N].as_array::<N>() {
-        Some(item) => *item,
-        None => [0; N],
-    }
-}
+use raw_block::{BlockBuilder, RawBlock, array_at};
 
 /// Appends the `width` bytes that start at `at`. If the compiler knows the width, and it is a
 /// common one, this is a single load and store.

@@ -2,7 +2,7 @@
 pub use Rattle.name_store.specs.Arrays.{find_array, has_room_for}
 pub use Rattle.name_store.specs.Calls.{AnswersBind, AnswersShares, AnswersUnbind, AnswersUndo, AnswersWrite, Counts, CountsUndo, CountsWrite}
 pub use Rattle.name_store.specs.Invariants.{IsSound, all_pins, users_at}
-pub use Rattle.name_store.specs.Kept.{patch_size, with_old}
+pub use Rattle.name_store.specs.Kept.{with_old}
 pub use Rattle.name_store.specs.Memory.{AreShifted, LieInTwo, NeedsNoMemory}
 pub use Rattle.name_store.specs.Shown.{Finds}
 pub use Rattle.name_store.specs.States.{BenchValue, start}

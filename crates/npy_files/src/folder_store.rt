@@ -67,7 +67,7 @@ impl<D: Disk, C: Cutter> FolderStore<D, C> {
     }
 
     /// The result of a call. A fault of the device is counted.
-    fn told<T>(&mut self, answer: Result<T, StoreFault>) -> Result<T, StoreFault>
+    fn counted<T>(&mut self, answer: Result<T, StoreFault>) -> Result<T, StoreFault>
         ensures answer { result ≡ answer }
         ensures disk { self.new.disk ≡ self.old.disk }
         ensures limit { self.new.limit ≡ self.old.limit }
@@ -119,7 +119,7 @@ impl<D: Disk, C: Cutter> NpyStore for FolderStore<D, C> {
             return Ok(None);
         }
         let found = read_file(&mut self.disk, alloc, &self.cutter, name, self.limit);
-        self.told(found)
+        self.counted(found)
     }
 
     /// A fault of the device is one of the disk, unless no file may have this name. A crash at any
@@ -154,10 +154,10 @@ impl<D: Disk, C: Cutter> NpyStore for FolderStore<D, C> {
         }
         let is_user = is_user_name(name);
         if !is_user {
-            return self.told(Err(StoreFault::Device));
+            return self.counted(Err(StoreFault::Device));
         }
         let written = write_file(&mut self.disk, alloc, name, front, items);
-        self.told(written)
+        self.counted(written)
     }
 }
 

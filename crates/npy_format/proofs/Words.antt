@@ -31,7 +31,7 @@ pub use Rattle.std.proofs.lemmas.Bool.{and_parts, cases_lt, eqb-true, le-leb, le
 pub use Rattle.std.proofs.lemmas.Bool.Decides.{nat_tests}
 pub use Rattle.std.proofs.lemmas.Fmt.{decimal_digit, decimal_nonempty, first_decimal, length-decimal-le}
 pub use Rattle.std.proofs.lemmas.Grind.{common_steps, flat_map-append}
-pub use Rattle.std.proofs.lemmas.List.{append-nil, at_drop_all, drop-append-le, drop-drop, drop_all, ext_get_or, get_or-map, get_or_past, length-map, length-replicate, length-reverse, map-append, reverse-reverse, take-append-drop, take-append-le, take-replicate, take_all}
+pub use Rattle.std.proofs.lemmas.List.{append-nil, at_drop_all, drop-append-le, drop-drop, drop_all, ext_get_or, get_or-map, get_or_past, length-map, length-replicate, length-reverse, map-append, reverse-reverse, take-append-drop, take-append-le, take_all}
 pub use Rattle.std.proofs.lemmas.List.Elements.{All-from_recursion, All-head, All-rest, All-tail, same_from_all_zip}
 pub use Rattle.std.proofs.lemmas.List.Folds.{flat_map-map}
 pub use Rattle.std.proofs.lemmas.List.FromFn.{get_or-map-range_with_len, length-map-range_with_len}

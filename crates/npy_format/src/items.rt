@@ -3,6 +3,7 @@ ghost use Rattle.std.specs.Prelude.{All, IfOk, IsTrue, OnOk, length, pos, replic
 ghost use Rattle.npy_format.specs.Clauses.{AreInOrder, EachWithin, blocks, count, decode_item, encode_item, is_c_contiguous, is_f_contiguous, item_at, item_size, leaves_of, max_bytes, offsets, place, position, put, run_offsets, addresses_in_file, as_in_file, capped, gathered, limit, limits_from, flat_map, repeat};
 
 use elem_descr::{Descr, Leaf, Scalar};
+use raw_block::part;
 use shape_strides::{Layout, Run, Runs};
 use std::alloc::{AllocError, Global};
 
@@ -15,14 +16,6 @@ fn place(run: Run, k: usize) -> usize
     ensures { result ≡ place run.offset run.step k }
 {
     (run.offset as isize + k as isize * run.step) as usize
-}
-
-/// The `len` bytes from `at` on.
-pub(crate) fn stretch(bytes: &[u8], at: usize, len: usize) -> &[u8]
-    requires { at + len ≤ length bytes.now }
-    ensures { result.now ≡ item_at at len bytes.now }
-{
-    &bytes[at..at + len]
 }
 
 /// Whether items of `width` bytes are adjacent.
@@ -43,10 +36,10 @@ fn push_run(file: &mut Vec<u8>, bytes: &[u8], run: Run, width: usize) -> Result<
         (file.new.items ≡ file.old.items ++ gathered width bytes.now (run_offsets run)) }
 {
     if is_adjacent(run, width) {
-        return file.extend_from_slice(stretch(bytes, run.offset, run.count * width));
+        return file.extend_from_slice(part(bytes, run.offset, run.count * width));
     }
     for k in 0..run.count {
-        file.extend_from_slice(stretch(bytes, place(run, k), width))?;
+        file.extend_from_slice(part(bytes, place(run, k), width))?;
     }
     Ok(())
 }
@@ -75,7 +68,7 @@ pub(crate) fn push_items(
 {
     let count = layout.shape.items();
     if are_together(layout, width) {
-        return file.extend_from_slice(stretch(bytes, layout.first_address(), count * width));
+        return file.extend_from_slice(part(bytes, layout.first_address(), count * width));
     }
     for run in Runs::new(layout) {
         push_run(file, bytes, run, width)?;

@@ -4,9 +4,9 @@ ghost use Rattle.npy_format.specs.Clauses.{TooLarge, Gives, item_size, item_from
 
 use crate::file_header::file_header;
 use crate::header_text::header_text;
-use crate::items::{are_plain, are_together, item_limits, push_items, stretch, write_items};
+use crate::items::{are_plain, are_together, item_limits, push_items, write_items};
 use elem_descr::{Descr, Refusal};
-use raw_block::RawBlock;
+use raw_block::{RawBlock, part};
 use shape_strides::{Layout, MAX_BYTES};
 use std::alloc::{AllocError, Global};
 
@@ -93,7 +93,7 @@ pub fn npy_parts<'a>(
     let mut front = header(alloc, descr, layout, width)?;
     let limits = item_limits(alloc, descr)?;
     if are_plain(&limits) && are_together(layout, width) {
-        let items = stretch(bytes, layout.first_address(), len);
+        let items = part(bytes, layout.first_address(), len);
         return Ok(SavedParts { front, items });
     }
     let start = front.len();

@@ -10,4 +10,3 @@ pub use Rattle.reductions.specs.inside.Lines.{AreHeld, EachOf, EachPair, all_lin
 pub use Rattle.reductions.specs.inside.Numbers.{AddsReduced, AreReduced, HaveItems, IsPushed, IsReduced, IsStored, TakesIn, lines, lists_from, number_at, numbers_at}
 pub use Rattle.reductions.specs.inside.Orders.{depends_on_order}
 pub use Rattle.std.specs.List.{flat_map}
-pub use Rattle.std.specs.List.Sorted.{IsPermutation}

@@ -19,13 +19,9 @@ unfoldable pub use Rattle.script_lang.specs.Tokens.{bytes_mark_at, integer_at, i
 pub use Rattle.script_lang.specs.Verbs.{operation_of, verbs}
 unfoldable pub use Rattle.script_lang.specs.Verbs.{beside, verb_of}
 pub use Rattle.script_lang.specs.Words.{Ellipsis, IndexItem, NewAxis, OutOfMemory, Refusal, Syntax, UnOp, bytes_eq, is_ellipsis, list_all, option_and_then, option_map, prefix_len, value_of}
-pub use Rattle.script_lang.specs.declared.command.Argument.{Argument}
 pub use Rattle.script_lang.specs.declared.command.Command.{Command}
-pub use Rattle.script_lang.specs.declared.command.Computation.{Computation}
 pub use Rattle.script_lang.specs.declared.command.Operand.{Operand}
 pub use Rattle.script_lang.specs.declared.command.Operation.{Operation}
-pub use Rattle.script_lang.specs.declared.command.Value.{Value}
-pub use Rattle.script_lang.specs.declared.command.Viewing.{Viewing}
 pub use Rattle.script_lang.specs.declared.literal.Literal.{Literal}
 pub use Rattle.script_lang.specs.declared.literal.Literal.TheVariants.{Record, Scalar}
 pub use Rattle.script_lang.specs.declared.literal.ScalarLiteral.{ScalarLiteral}

@@ -3,8 +3,8 @@ use Rattle.npy_format.proofs.Words.{All-head, All-rest, Run, flat_map, item_at, 
 use Rattle.npy_format.proofs.GatherLaws.{together, in_file-none, few-counts, run_pushed}
 use Rattle.npy_format.proofs.items.push_items.Goals as goal
 
-pub stretch-requires : goal.stretch-requires
-stretch-requires c =
+pub part-requires : goal.part-requires
+part-requires c =
     let l = c.args.layout.now in
     let all = together c.args.width l.shape (offsets l) c.args.bytes.now (length-offsets l) c.requires.inside (sym c.are_together.ensures ∙ c.if-are_together.true) in
     let ends = all.ends in
@@ -14,7 +14,7 @@ pub returns-then-are_together : goal.returns-then-are_together
 returns-then-are_together c =
     let l = c.args.layout.now in
     let all = together c.args.width l.shape (offsets l) c.args.bytes.now (length-offsets l) c.requires.inside (sym c.are_together.ensures ∙ c.if-are_together.true) in
-    let is : gathered c.args.width c.args.bytes.now (addresses_in_file c.args.width l.shape (offsets l)) ≡ c.stretch.result.now = all.joined ∙ (λ i. item_at (sym c.first_address.ensures i) (sym c.items-count.ensures.value i * c.args.width) c.args.bytes.now) ∙ sym c.stretch.ensures in
+    let is : gathered c.args.width c.args.bytes.now (addresses_in_file c.args.width l.shape (offsets l)) ≡ c.part.result.now = all.joined ∙ (λ i. item_at (sym c.first_address.ensures i) (sym c.items-count.ensures.value i * c.args.width) c.args.bytes.now) ∙ sym c.part.ensures.value in
     rw is (search rules)
 
 pub loop-run-init : goal.loop-run-init

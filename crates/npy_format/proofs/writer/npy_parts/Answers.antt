@@ -12,8 +12,8 @@ returns-then-len-gt-MAX_BYTES-clause-gives c =
     let same : c.items.result * c.size-width.result ≡ count l.shape * item_size descr = λ i. c.items.ensures.value i * c.size-width.ensures.value i in
     inr (saved-large descr l.shape (offsets l) (map (item_from descr block) (offsets l)) (omega (arith, same, c.if-len-gt-MAX_BYTES.true)))
 
-pub stretch-items-requires : goal.stretch-items-requires
-stretch-items-requires c =
+pub part-items-requires : goal.part-items-requires
+part-items-requires c =
     let l = c.args.layout.now in
     let descr = c.args.descr.now in
     let block = c.args.block.now in
@@ -35,7 +35,7 @@ returns-then-are_together-clause-gives c =
     let fortran = is_fortran (item_size descr) l.shape (offsets l) in
     let front = c.in_ok-front.front.items in
     saved-small descr l.shape (offsets l) (map (item_from descr block) (offsets l)) (omega (arith, same, c.if-len-gt-MAX_BYTES.false)) ∙ ap (λ file. Ok file) (sym (
-    ap (λ items. front ++ items) c.stretch-items.ensures
+    ap (λ items. front ++ items) c.part-items.ensures.value
     ∙ stretch_written descr l.shape (offsets l) bytes c.first_address.result (c.items.result * c.size-width.result) (length-offsets l) inside together c.first_address.ensures same front (subst (All (λ limit. limit ≡ 255)) (c.deref.ensures.value ∙ c.in_ok-limits.ensures.limits) (c.are_plain.ensures c.if-are_plain.true)) c.in_ok-limits.ensures.in_order c.will_load.ensures.bytes
     ∙ ap (λ head. head ++ flat_map (encode_item descr) (ordered (file_order fortran) l.shape (map (item_from descr bytes) (offsets l)))) (c.in_ok-front.ensures ∙ ap (λ w. written_header (written_text descr (is_fortran w l.shape (offsets l)) l.shape)) c.size-width.ensures.value)
     ∙ ap (λ b. file_of descr fortran l.shape (map (item_from descr b) (offsets l))) c.bytes-bytes.ensures))

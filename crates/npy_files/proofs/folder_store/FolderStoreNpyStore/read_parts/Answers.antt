@@ -14,11 +14,11 @@ returns-then-not-is_user_name-clause-crash g c = λ honest. unmoved _
 pub returns-clause-found : goal.returns-clause-found
 returns-clause-found g c = λ honest.
     let user : IsTrue (is_user_name c.args.name.now) = search rules in
-    told_read (λ (parts : FileParts). parts.front.items ++ parts.block) g.D.Disk.honest (g.D.Disk.files c.args.self.now.disk) c.args.name.now c.args.self.now.limit c.told.result honest
-    (user_reads (λ (parts : FileParts). parts.front.items ++ parts.block) (g.D.Disk.files c.args.self.now.disk) c.args.name.now c.args.self.now.limit c.told.result user (rw c.told.ensures.answer (c.read_file-found.ensures.found honest)))
+    told_read (λ (parts : FileParts). parts.front.items ++ parts.block) g.D.Disk.honest (g.D.Disk.files c.args.self.now.disk) c.args.name.now c.args.self.now.limit c.counted.result honest
+    (user_reads (λ (parts : FileParts). parts.front.items ++ parts.block) (g.D.Disk.files c.args.self.now.disk) c.args.name.now c.args.self.now.limit c.counted.result user (rw c.counted.ensures.answer (c.read_file-found.ensures.found honest)))
 
 pub returns-clause-files : goal.returns-clause-files
-returns-clause-files g c = told_same g.D.Disk.honest (g.D.Disk.files c.args.self.now.disk) (g.D.Disk.files c.told.new.self.disk) (λ honest. rw c.told.ensures.disk (c.read_file-found.ensures.files honest))
+returns-clause-files g c = told_same g.D.Disk.honest (g.D.Disk.files c.args.self.now.disk) (g.D.Disk.files c.counted.new.self.disk) (λ honest. rw c.counted.ensures.disk (c.read_file-found.ensures.files honest))
 
 pub returns-clause-cause : goal.returns-clause-cause
-returns-clause-cause g c = counted (folder_shelf (g.D.Disk.files c.args.self.now.disk) c.args.self.now.faults c.args.self.now.limit g.D.Disk.honest) (folder_shelf (g.D.Disk.files c.told.new.self.disk) c.told.new.self.faults c.told.new.self.limit g.D.Disk.honest) c.told.result c.told.ensures.few c.told.ensures.cause
+returns-clause-cause g c = counted (folder_shelf (g.D.Disk.files c.args.self.now.disk) c.args.self.now.faults c.args.self.now.limit g.D.Disk.honest) (folder_shelf (g.D.Disk.files c.counted.new.self.disk) c.counted.new.self.faults c.counted.new.self.limit g.D.Disk.honest) c.counted.result c.counted.ensures.few c.counted.ensures.cause
