@@ -154,13 +154,13 @@ amount : (signed : Bool) (by width : ℕ) → by < width → width ≤ 64 → in
 amount false by width near few = refl
 amount true by width near few = is_small by (omega (arith, near, few))
 
-pub moved_down_is : (signed : Bool) (width by m : ℕ) (z : ℤ) → by < width → width ≤ 64 → m ≡ max width 1 → floor_quotient z (pos (2 ^ (by % m))) ≡ shifted_right width z (integer signed 8 by)
-moved_down_is signed width by m z near few is =
+pub shift_right_is : (signed : Bool) (width by m : ℕ) (z : ℤ) → by < width → width ≤ 64 → m ≡ max width 1 → floor_quotient z (pos (2 ^ (by % m))) ≡ shifted_right width z (integer signed 8 by)
+shift_right_is signed width by m z near few is =
     let test : nat_lt by width ≡ true = grind (arith, nat_tests) in
     ap (λ n. floor_quotient z (pos (2 ^ n))) (kept by width m near is) ∙ ap (λ t. cond t (floor_quotient z (pos (2 ^ by))) (sign_bits z)) (sym test) ∙ ap (shifted_right width z) (sym (amount signed by width near few))
 
-pub moved_up_low : (signed : Bool) (width x by : ℕ) → by < width → width ≤ 64 → x < 2 ^ 64 → (x * 2 ^ by) % 2 ^ 64 ≡ low_bits 8 (shifted_left width (integer signed 8 x) (integer signed 8 by))
-moved_up_low signed width x by near few below =
+pub shift_left_low : (signed : Bool) (width x by : ℕ) → by < width → width ≤ 64 → x < 2 ^ 64 → (x * 2 ^ by) % 2 ^ 64 ≡ low_bits 8 (shifted_left width (integer signed 8 x) (integer signed 8 by))
+shift_left_low signed width x by near few below =
     let power : 2 ^ by < 2 ^ 64 = pow_below by 64 (omega (arith, near, few)) in
     let test : nat_lt by width ≡ true = grind (arith, nat_tests) in
     (λ i. (sym (low_bits-integer signed 8 x below) i * sym (low_bits-small (2 ^ by) power) i) % 2 ^ 64)

@@ -58,7 +58,7 @@ pub(crate) fn division(leaves: bool, left: u64, right: u64, quotient: u64) -> u6
 /// The bits of a number of `width` bits, shifted left. The shift itself is by less than `width`,
 /// and a longer one selects 0, so there is no branch.
 #[inline(always)]
-pub(crate) fn moved_up(width: u64, left: u64, right: u64) -> u64
+pub(crate) fn shift_left(width: u64, left: u64, right: u64) -> u64
     requires { width ≤ 64 }
     ensures { (signed : Bool)
         → result
@@ -70,7 +70,7 @@ pub(crate) fn moved_up(width: u64, left: u64, right: u64) -> u64
 
 /// The bits of a number of `width` bits, shifted right.
 #[inline(always)]
-pub(crate) fn moved_down(signed: bool, width: u64, left: u64, right: u64) -> u64
+pub(crate) fn shift_right(signed: bool, width: u64, left: u64, right: u64) -> u64
     requires { width ≤ 64 }
     ensures { result
         ≡ low_bits 8 (shifted_right width (integer signed 8 left) (integer signed 8 right)) }

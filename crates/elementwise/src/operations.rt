@@ -63,9 +63,9 @@ impl<const LEAVES: bool, N: Number> Kernel<N, N, N> for Dividing<LEAVES> {
     }
 }
 
-struct KeepingBoth;
+struct BitwiseAnd;
 
-impl<N: Number> Kernel<N, N, N> for KeepingBoth {
+impl<N: Number> Kernel<N, N, N> for BitwiseAnd {
     ghost makes = { binary And (N.scalar Little) };
 
     #[inline(always)]
@@ -74,9 +74,9 @@ impl<N: Number> Kernel<N, N, N> for KeepingBoth {
     }
 }
 
-struct KeepingEither;
+struct BitwiseOr;
 
-impl<N: Number> Kernel<N, N, N> for KeepingEither {
+impl<N: Number> Kernel<N, N, N> for BitwiseOr {
     ghost makes = { binary Or (N.scalar Little) };
 
     #[inline(always)]
@@ -85,9 +85,9 @@ impl<N: Number> Kernel<N, N, N> for KeepingEither {
     }
 }
 
-struct KeepingOne;
+struct BitwiseXor;
 
-impl<N: Number> Kernel<N, N, N> for KeepingOne {
+impl<N: Number> Kernel<N, N, N> for BitwiseXor {
     ghost makes = { binary Xor (N.scalar Little) };
 
     #[inline(always)]
@@ -96,32 +96,32 @@ impl<N: Number> Kernel<N, N, N> for KeepingOne {
     }
 }
 
-struct MovingUp;
+struct LeftShift;
 
-impl<N: Number> Kernel<N, N, N> for MovingUp {
+impl<N: Number> Kernel<N, N, N> for LeftShift {
     ghost makes = { binary ShiftLeft (N.scalar Little) };
 
     #[inline(always)]
     fn make(left: N, right: N) -> N {
-        N::of_bits(bits::moved_up(8 * N::WIDTH as u64, left.bits(), right.bits()))
+        N::of_bits(bits::shift_left(8 * N::WIDTH as u64, left.bits(), right.bits()))
     }
 }
 
-struct MovingDown;
+struct RightShift;
 
-impl<N: Number> Kernel<N, N, N> for MovingDown {
+impl<N: Number> Kernel<N, N, N> for RightShift {
     ghost makes = { binary ShiftRight (N.scalar Little) };
 
     #[inline(always)]
     fn make(left: N, right: N) -> N {
-        N::of_bits(bits::moved_down(N::SIGNED, 8 * N::WIDTH as u64, left.bits(), right.bits()))
+        N::of_bits(bits::shift_right(N::SIGNED, 8 * N::WIDTH as u64, left.bits(), right.bits()))
     }
 }
 
-/// The remainder of these bits by the second number.
-struct TakingFrom<const BITS: u64>;
+/// These bits minus the second number.
+struct SubtractingFrom<const BITS: u64>;
 
-impl<const BITS: u64, N: Number> Kernel<N, N, N> for TakingFrom<BITS> {
+impl<const BITS: u64, N: Number> Kernel<N, N, N> for SubtractingFrom<BITS> {
     ghost makes = { λ _ b. wrap (N.scalar Little) (integer true 8 BITS -ℤ b) };
 
     #[inline(always)]
@@ -169,19 +169,19 @@ impl<'a, 'b> NumberTask for Working<'a, 'b> {
                     block,
                 ),
                 BinOp::Modulo => operands.push_all(&Divisions::<true, N, O>(PhantomData), block),
-                BinOp::And => append::<KeepingBoth, N, N, N, O, LowFirst>(block, operands),
-                BinOp::Or => append::<KeepingEither, N, N, N, O, LowFirst>(block, operands),
-                BinOp::Xor => append::<KeepingOne, N, N, N, O, LowFirst>(block, operands),
-                BinOp::ShiftLeft => append::<MovingUp, N, N, N, O, LowFirst>(block, operands),
-                BinOp::ShiftRight => append::<MovingDown, N, N, N, O, LowFirst>(block, operands),
+                BinOp::And => append::<BitwiseAnd, N, N, N, O, LowFirst>(block, operands),
+                BinOp::Or => append::<BitwiseOr, N, N, N, O, LowFirst>(block, operands),
+                BinOp::Xor => append::<BitwiseXor, N, N, N, O, LowFirst>(block, operands),
+                BinOp::ShiftLeft => append::<LeftShift, N, N, N, O, LowFirst>(block, operands),
+                BinOp::ShiftRight => append::<RightShift, N, N, N, O, LowFirst>(block, operands),
                 BinOp::Divide => unreachable!(),
             },
             Work::Change(op) => match op {
-                UnOp::Negate => append::<TakingFrom<0>, N, N, N, O, LowFirst>(block, operands),
-                UnOp::Invert if bools => append::<TakingFrom<1>, N, N, N, O, LowFirst>(
+                UnOp::Negate => append::<SubtractingFrom<0>, N, N, N, O, LowFirst>(block, operands),
+                UnOp::Invert if bools => append::<SubtractingFrom<1>, N, N, N, O, LowFirst>(
                     block, operands,
                 ),
-                UnOp::Invert => append::<TakingFrom<{ u64::MAX }>, N, N, N, O, LowFirst>(
+                UnOp::Invert => append::<SubtractingFrom<{ u64::MAX }>, N, N, N, O, LowFirst>(
                     block, operands,
                 ),
             },

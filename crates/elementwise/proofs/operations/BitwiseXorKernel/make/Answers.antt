@@ -1,7 +1,7 @@
 use Rattle.std.proofs.Common.{pos, bit_xor}
 use Rattle.elementwise.proofs.Words.{xor_mod, xor_lt, Little}
 use Rattle.elementwise.proofs.WordLaws.{are_bits, bits_applied}
-use Rattle.elementwise.proofs.operations.KeepingOneKernel.make.Goals as goal
+use Rattle.elementwise.proofs.operations.BitwiseXorKernel.make.Goals as goal
 
 pub returns : goal.returns
 returns g c =

@@ -1,7 +1,7 @@
 use Rattle.std.proofs.Common.{arith, pos, bit_and}
 use Rattle.elementwise.proofs.Words.{and_mod, and_le_l, Little}
 use Rattle.elementwise.proofs.WordLaws.{are_bits, bits_applied}
-use Rattle.elementwise.proofs.operations.KeepingBothKernel.make.Goals as goal
+use Rattle.elementwise.proofs.operations.BitwiseAndKernel.make.Goals as goal
 
 pub returns : goal.returns
 returns g c =

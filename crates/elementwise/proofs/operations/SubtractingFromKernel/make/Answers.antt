@@ -2,7 +2,7 @@ use Rattle.std.proofs.Common.{ℕ, ◌+◌, ◌-◌, ◌%◌, ◌^◌, sym, ◌�
 use Rattle.elementwise.proofs.Words.{mod-lt, Little, integer, low_bits}
 use Rattle.elementwise.proofs.BitLaws.{difference_low}
 use Rattle.elementwise.proofs.WordLaws.{are_bits, applied_one, near_zero}
-use Rattle.elementwise.proofs.operations.TakingFromKernel.make.Goals as goal
+use Rattle.elementwise.proofs.operations.SubtractingFromKernel.make.Goals as goal
 
 pub returns : goal.returns
 returns g c =

@@ -1,7 +1,7 @@
 use Rattle.std.proofs.Common.{pos, bit_or}
 use Rattle.elementwise.proofs.Words.{or_mod, or_lt, Little}
 use Rattle.elementwise.proofs.WordLaws.{are_bits, bits_applied}
-use Rattle.elementwise.proofs.operations.KeepingEitherKernel.make.Goals as goal
+use Rattle.elementwise.proofs.operations.BitwiseOrKernel.make.Goals as goal
 
 pub returns : goal.returns
 returns g c =
