@@ -11,7 +11,7 @@ pub use Rattle.fancy_index.specs.inside.Bools.{AreAll, AreNoted, IsBlock, LieInB
 pub use Rattle.fancy_index.specs.inside.Items.{IsOutside, IsWithin, array_item, kind_in, numbers_in}
 pub use Rattle.fancy_index.specs.inside.Kept.{CanPush, CanPut, FitAt, HaveFilled, HavePushed, HavePut, first_offsets, moved_offsets, offsets_from, shifted_offsets}
 pub use Rattle.fancy_index.specs.inside.Lists.{items_left}
-pub use Rattle.fancy_index.specs.inside.Moved.{AllStart, laid_offsets}
+pub use Rattle.fancy_index.specs.inside.Moved.{IsMoved, AllStart, laid_offsets}
 pub use Rattle.fancy_index.specs.inside.PartLists.{AddsParts, AreParts, IsChecked, IsReady, IsRest, LeadInto, all_named, first_offset, is_named, rest_picks, shown_part, view_if_named}
 pub use Rattle.fancy_index.specs.inside.Places.{gone_on}
 pub use Rattle.fancy_index.specs.inside.PointLists.{IsPart, are_named, place_of, ranks_of, true_ranks}

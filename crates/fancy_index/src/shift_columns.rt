@@ -1,7 +1,7 @@
 //! The offset of the first item with each point: how far each array moves it from the item with all
 //! points at 0.
 ghost use Rattle.std.specs.Prelude.{All, IfOk, OnOk, drop, get_or, length, map, pos, take, true, ℕ, ◌+◌, ◌<◌, ◌≡◌, ◌≤◌};
-ghost use Rattle.fancy_index.specs.Clauses.{IsShape, address, can_stretch, count, indexes, max_bytes, offsets, IsWithin, AreParts, IsReady, LeadInto, all_named, first_offset, is_named, AllCanGrow, AreSoMany, CanGrowAlong, IsOrigin, BeginAt, BeginsAt, CanAdd, CanGrow, HaveAdded, HaveAllGrown, HaveGrown, HaveGrownFrom, number_along, number_through, point_number, start_of, starts, stretched_ranks, strides_along};
+ghost use Rattle.fancy_index.specs.Clauses.{IsShape, address, can_stretch, count, indexes, max_bytes, offsets, IsWithin, IsMoved, AreParts, IsReady, LeadInto, all_named, first_offset, is_named, AllCanGrow, AreSoMany, CanGrowAlong, IsOrigin, BeginAt, BeginsAt, CanAdd, CanGrow, HaveAdded, HaveAllGrown, HaveGrown, HaveGrownFrom, number_along, number_through, point_number, start_of, starts, stretched_ranks, strides_along};
 
 use crate::index_parts::IndexPart;
 use crate::masks::lead_through;
@@ -156,6 +156,19 @@ fn grow_each(shifts: &mut [u32], at: usize, start: u32, offsets: &[u32], places:
     }
 }
 
+/// Adds the distance of one offset from the start to `count` shifts, starting with one of them.
+fn grow_equally(shifts: &mut [u32], at: usize, start: u32, offset: u32, count: usize)
+    requires start { start ≤ max_bytes }
+    requires many { at + count ≤ length shifts.old }
+    requires can { (k : ℕ) → at ≤ k → k < at + count
+        → IsMoved start (get_or shifts.old k 0) offset }
+    ensures { HaveGrownFrom at start (λ _. offset) shifts.old shifts.new (at + count) }
+{
+    for k in 0..count {
+        shifts[at + k] = shifts[at + k] + offset - start;
+    }
+}
+
 /// Adds it to as many shifts as a run of places has, with a loop of its own for adjacent places and
 /// for a single place.
 fn grow_run(shifts: &mut [u32], at: usize, start: u32, offsets: &[u32], places: Run)
@@ -164,7 +177,9 @@ fn grow_run(shifts: &mut [u32], at: usize, start: u32, offsets: &[u32], places: 
         HaveGrownFrom at start (number_along offsets.now places at) shifts.old shifts.new to }
 {
     match places.step {
-        0 => grow_each(shifts, at, start, offsets, Run { step: 0, ..places }),
+        0 if places.count > 0 => {
+            grow_equally(shifts, at, start, offsets[places.offset], places.count);
+        }
         1 => grow_each(shifts, at, start, offsets, Run { step: 1, ..places }),
         _ => grow_each(shifts, at, start, offsets, places),
     }
