@@ -1,6 +1,6 @@
 -- What a disk with a cache finds, and what crashes leave after each event.
-use Rattle.std.proofs.Common.{◌≡◌, ◌≢◌, inl, inr, ⊎_elim, ◌-◌, ◌<◌, ◌≤◌, Bool, true, false, ℕ, suc, List, [], ◌∷◌, length, take, drop, get_or, Option, None, Vec, cond, MatchBool, refl, sym, ap, ◌∙◌, subst, arith}
-use Rattle.disk.proofs.Words.{Global, common_steps, get, get-empty, slice_cmp, nat_cmp, bytes_eq, cases_lt, false_from_ne_true, when_true, when_false, bytes_eq-Decides, Event, Changed, FileSynced, NamesSynced, Files, Same, SameBut, Leaves, SameButBoth, Replaces, follows, weaker, then_but, unmoved, bytes_of_change, bound, get-bound, bound_here, bound_else, found, is_synced, MayStand, MayStay, cached_history, found_may_stand, newest}
+use Rattle.std.proofs.Common.{◌≡◌, ◌≢◌, inl, inr, ⊎_elim, ◌-◌, ◌<◌, ◌≤◌, Bool, true, false, ℕ, suc, List, [], ◌∷◌, length, take, drop, get_or, Option, None, Vec, cond, MatchBool, IsTrue, refl, sym, ap, ◌∙◌, subst, arith}
+use Rattle.disk.proofs.Words.{Global, common_steps, get, get-empty, slice_cmp, nat_cmp, bytes_eq, cases_lt, false_from_ne_true, when_true, when_false, bytes_eq-Decides, Event, Changed, FileSynced, NamesSynced, Files, Same, SameBut, Leaves, SameButBoth, Replaces, follows, weaker, only_but, only_same, replaces_again, unmoved, bytes_of_change, bound, get-bound, bound_here, bound_else, found, is_synced, MayStand, MayStay, cached_history, cached_state, file_name, IsUnchanged, ChangesOnly, Moves, found_may_stand, newest}
 
 -- a list by its first event
 headed : (rest : List Event) (event : Event) → 1 ≤ length rest → event ≡ get_or rest 0 event → rest ≡ event ∷ take (length rest - 1) (drop 1 rest)
@@ -90,80 +90,101 @@ module _ (events : List Event) (from : List ℕ) (name : Vec ℕ Global) (bytes 
       ))
       (when_true _ _ ((bytes_eq-Decides name.items name.items).1 refl) (left name.items)))
 
--- what a crash leaves after a sync
-pub file_synced : (events : List Event) (name : Vec ℕ Global) → Leaves Same (cached_history events) (cached_history (FileSynced name ∷ events))
-file_synced events name = one_event Same events (FileSynced name) (λ files other. refl) (λ files left. (files, left, λ other. refl))
+-- no event at all
+still : (Step : Files → Files → Type 0) → ((x y : Files) → Same x y → Step x y) → (events : List Event) → Leaves Step (cached_history events) (cached_history events)
+still Step stays events = weaker Same Step (cached_history events) (cached_history events) stays (unmoved (cached_history events))
 
-pub names_synced : (events : List Event) → Leaves Same (cached_history events) (cached_history (NamesSynced ∷ events))
-names_synced events = one_event Same events NamesSynced (λ files other. refl) (λ files left. (
-  files,
-  λ other. elim (is_synced events other) as (λ b. MatchBool b (get files other ≡ get (found events) other) (MayStand events other (get files other)) → MayStand events other (get files other)) [
-    | true ↦ λ is. subst (MayStand events other) (sym is) (found_may_stand events other)
-    | false ↦ λ old. old
-  ] (left other),
-  λ other. refl,
-))
+pub still_same : (old new : List Event) → new ≡ old → IsUnchanged (cached_state old) (cached_state new)
+still_same old new same = subst (λ (l : List Event). IsUnchanged (cached_state old) (cached_state l)) (sym same) (record { files = refl; crash = unmoved (cached_history old); current = λ file current. current })
+
+pub still_but : (name : List ℕ) (old new : List Event) → new ≡ old → ChangesOnly file_name name (cached_state old) (cached_state new)
+still_but name old new same = subst (λ (l : List Event). ChangesOnly file_name name (cached_state old) (cached_state l)) (sym same) (record {
+  files = λ other far. refl;
+  crash = still (SameBut name) (λ x y same other far. same other) old;
+  current = λ file far current. current;
+})
+
+pub still_there : (from to : List ℕ) (old new : List Event) → new ≡ old → Moves file_name from to (cached_state old) (cached_state new)
+still_there from to old new same = subst (λ (l : List Event). Moves file_name from to (cached_state old) (cached_state l)) (sym same) (record {
+  files = record { others = λ other far near. refl; whole = inl refl };
+  crash = still (SameButBoth from to) (λ x y same other far near. same other) old;
+  whole = λ synced. only_same from to (get (found old) from) (unmoved (cached_history old));
+  current = λ file far near current. current;
+})
+
+-- a sync
+pub file_synced : (name : Vec ℕ Global) (old new : List Event) → new ≡ FileSynced name ∷ old → IsUnchanged (cached_state old) (cached_state new)
+file_synced name old new is = subst (λ (l : List Event). IsUnchanged (cached_state old) (cached_state l)) (sym is) (record {
+  files = refl;
+  crash = one_event Same old (FileSynced name) (λ files other. refl) (λ files left. (files, left, λ other. refl));
+  current = λ file current. current;
+})
+
+pub names_synced : (old new : List Event) → new ≡ NamesSynced ∷ old → IsUnchanged (cached_state old) (cached_state new)
+names_synced old new is = subst (λ (l : List Event). IsUnchanged (cached_state old) (cached_state l)) (sym is) (record {
+  files = refl;
+  crash = one_event Same old NamesSynced (λ files other. refl) (λ files left. (
+    files,
+    λ other. elim (is_synced old other) as (λ b. MatchBool b (get files other ≡ get (found old) other) (MayStand old other (get files other)) → MayStand old other (get files other)) [
+      | true ↦ λ is. subst (MayStand old other) (sym is) (found_may_stand old other)
+      | false ↦ λ stood. stood
+    ] (left other),
+    λ other. refl,
+  ));
+  current = λ file current. current;
+})
+
+-- a change of this name
+module _ (name : List ℕ) (bytes : Option (Vec ℕ Global)) (is_whole : Bool) (called : Vec ℕ Global) (is : called.items ≡ name) (old new : List Event) (made : new ≡ Changed called bytes is_whole ∷ old) where
+  pub binds : get (found new) name ≡ bytes_of_change bytes
+  binds = ap (λ (l : List Event). get (found l) name) made ∙ ap (get (found (Changed called bytes is_whole ∷ old))) (sym is) ∙ bound_here called.items (bytes_of_change bytes) (found old)
+
+  pub changes_only : ChangesOnly file_name name (cached_state old) (cached_state new)
+  changes_only = subst (λ (v : List ℕ × List Event). ChangesOnly file_name v.0 (cached_state old) (cached_state v.1)) (λ i. (is i, sym made i)) (record {
+    files = bound_else called.items (bytes_of_change bytes) (found old);
+    crash = changes old called bytes is_whole;
+    current = λ file far current. current;
+  })
+
+-- A file has moved: what was found under the one name is found under the other.
+pub record IsRenamed (from to : List ℕ) (old new : List Event) : Type 0 where
+  pub renamed : get (found new) to ≡ get (found old) from
+  pub synced : IsTrue (is_synced old from) → IsTrue (is_synced new to)
+  pub others : Moves file_name from to (cached_state old) (cached_state new)
 
 -- a file arrives under one name, and is gone under the other
-module _ (old new : List Event) (arrived gone : Vec ℕ Global) (bytes : Option (Vec ℕ Global)) (is_whole : Bool) (from to : List ℕ) (distinct : to ≢ from)
-    (goes : gone.items ≡ from) (comes : arrived.items ≡ to) (made : Changed gone None true ∷ Changed arrived bytes is_whole ∷ old ≡ new) where
-  differ : arrived.items ≢ gone.items
-  differ same = distinct (sym comes ∙ same ∙ goes)
+module _ (old : List Event) (arrived gone : Vec ℕ Global) (bytes : Option (Vec ℕ Global)) (is_whole : Bool) (differ : arrived.items ≢ gone.items) where
+  abbrev come : List Event
+  come = Changed arrived bytes is_whole ∷ old
 
-  pub shifted : get (found new) to ≡ bytes_of_change bytes
-  shifted =
-      ap (λ (l : List Event). get (found l) to) (sym made)
-      ∙ ap (get (found (Changed gone None true ∷ Changed arrived bytes is_whole ∷ old))) (sym comes)
-      ∙ bound_else gone.items None (found (Changed arrived bytes is_whole ∷ old)) arrived.items differ
-      ∙ bound_here arrived.items (bytes_of_change bytes) (found old)
+  moved_there : bytes_of_change bytes ≡ get (found old) gone.items → is_whole ≡ is_synced old gone.items → IsRenamed gone.items arrived.items old (Changed gone None true ∷ come)
+  moved_there has whole =
+      let there = bound_else gone.items None (found come) arrived.items differ ∙ bound_here arrived.items (bytes_of_change bytes) (found old) ∙ has in
+      record {
+        renamed = there;
+        synced = λ synced.
+            ap (λ b. cond b true (cond (bytes_eq arrived.items arrived.items) is_whole (is_synced old arrived.items))) (false_from_ne_true _ (λ same. differ ((bytes_eq-Decides arrived.items gone.items).0 same)))
+            ∙ ap (λ b. cond b is_whole (is_synced old arrived.items)) ((bytes_eq-Decides arrived.items arrived.items).1 refl)
+            ∙ whole ∙ synced;
+        others = record {
+          files = record {
+            others = λ other far near. bound_else gone.items None (found come) other far ∙ bound_else arrived.items (bytes_of_change bytes) (found old) other near;
+            whole = inr there;
+          };
+          crash = follows (SameBut arrived.items) (SameBut gone.items) (SameButBoth gone.items arrived.items) (cached_history old) (cached_history come) (cached_history (Changed gone None true ∷ come))
+              (λ x y same other far near. same other near) (λ x y z first second other far near. second other far ∙ first other near)
+              (changes old arrived bytes is_whole) (changes come gone None true);
+          whole = λ synced. subst (λ (v : Option (List ℕ) × Bool). Leaves (Replaces gone.items arrived.items v.0) (cached_history old) (cached_history (Changed gone None true ∷ Changed arrived bytes v.1 ∷ old))) (λ i. (has i, sym (whole ∙ synced) i))
+              (replaces_again gone.items arrived.items (bytes_of_change bytes) (arrives old gone.items arrived bytes) (only_but gone.items arrived.items (bytes_of_change bytes) differ (changes (Changed arrived bytes true ∷ old) gone None true)));
+          current = λ file far near current. current;
+        };
+      }
 
-  pub shifts_files : (moved : Option (List ℕ)) → bytes_of_change bytes ≡ moved → Replaces from to moved (found old) (found new)
-  shifts_files moved has = record {
-    others = λ other far near.
-        ap (λ (l : List Event). get (found l) other) (sym made)
-        ∙ bound_else gone.items None (found (Changed arrived bytes is_whole ∷ old)) other (λ same. far (same ∙ goes))
-        ∙ bound_else arrived.items (bytes_of_change bytes) (found old) other (λ same. near (same ∙ comes));
-    whole = inr (shifted ∙ has);
-  }
-
-  -- whether or not the bytes are on the disk
-  pub shifts_both : Leaves (SameButBoth from to) (cached_history old) (cached_history new)
-  shifts_both =
-      let both = follows (SameBut arrived.items) (SameBut gone.items) (SameButBoth gone.items arrived.items) (cached_history old) (cached_history (Changed arrived bytes is_whole ∷ old)) (cached_history (Changed gone None true ∷ Changed arrived bytes is_whole ∷ old))
-      (λ x y same other far near. same other near) (λ x y z first second other far near. second other far ∙ first other near)
-      (changes old arrived bytes is_whole) (changes (Changed arrived bytes is_whole ∷ old) gone None true) in
-      subst (λ (v : List ℕ × List ℕ × List Event). Leaves (SameButBoth v.0 v.1) (cached_history old) (cached_history v.2)) (λ i. (goes i, comes i, made i)) both
-
-  pub is_synced_there : is_synced new to ≡ is_whole
-  is_synced_there =
-      ap (λ (l : List Event). is_synced l to) (sym made)
-      ∙ ap (is_synced (Changed gone None true ∷ Changed arrived bytes is_whole ∷ old)) (sym comes)
-      ∙ ap (λ b. cond b true (cond (bytes_eq arrived.items arrived.items) is_whole (is_synced old arrived.items))) (false_from_ne_true _ (λ same. differ ((bytes_eq-Decides arrived.items gone.items).0 same)))
-      ∙ ap (λ b. cond b is_whole (is_synced old arrived.items)) ((bytes_eq-Decides arrived.items arrived.items).1 refl)
-
-  -- if the bytes are on the disk
-  pub shifts_whole : (moved : Option (List ℕ)) → bytes_of_change bytes ≡ moved → is_whole ≡ true → Leaves (Replaces from to moved) (cached_history old) (cached_history new)
-  shifts_whole moved has whole =
-      let both = then_but gone.items arrived.items (bytes_of_change bytes) differ (cached_history old) (cached_history (Changed arrived bytes true ∷ old)) (cached_history (Changed gone None true ∷ Changed arrived bytes true ∷ old))
-      (arrives old gone.items arrived bytes) (changes (Changed arrived bytes true ∷ old) gone None true) in
-      let such : Changed gone None true ∷ Changed arrived bytes true ∷ old ≡ new = ap (λ b. Changed gone None true ∷ Changed arrived bytes b ∷ old) (sym whole) ∙ made in
-      subst (λ (v : List ℕ × List ℕ × Option (List ℕ) × List Event). Leaves (Replaces v.0 v.1 v.2) (cached_history old) (cached_history v.3)) (λ i. (goes i, comes i, has i, such i)) both
-
--- no event at all
-still : (Step : Files → Files → Type 0) → ((x y : Files) → Same x y → Step x y) → (old new : List Event) → new ≡ old → Leaves Step (cached_history old) (cached_history new)
-still Step stays old new same = subst (λ (l : List Event). Leaves Step (cached_history old) (cached_history l)) (sym same) (weaker Same Step (cached_history old) (cached_history old) stays (unmoved (cached_history old)))
-
-pub still_same : (old new : List Event) → new ≡ old → Leaves Same (cached_history old) (cached_history new)
-still_same = still Same (λ x y same. same)
-
-pub still_but : (name : List ℕ) (old new : List Event) → new ≡ old → Leaves (SameBut name) (cached_history old) (cached_history new)
-still_but name = still (SameBut name) (λ x y same other far. same other)
-
-pub still_both : (from to : List ℕ) (old new : List Event) → new ≡ old → Leaves (SameButBoth from to) (cached_history old) (cached_history new)
-still_both from to = still (SameButBoth from to) (λ x y same other far near. same other)
-
-pub still_in_place : (from to : List ℕ) (moved : Option (List ℕ)) (old new : List Event) → new ≡ old → Leaves (Replaces from to moved) (cached_history old) (cached_history new)
-still_in_place from to moved = still (Replaces from to moved) (λ x y same. record { others = λ other far near. same other; whole = inl (same to) })
+pub renames : (old new : List Event) (arrived gone : Vec ℕ Global) (bytes : Option (Vec ℕ Global)) (is_whole : Bool) (from to : List ℕ) → to ≢ from → gone.items ≡ from → arrived.items ≡ to
+    → new ≡ Changed gone None true ∷ Changed arrived bytes is_whole ∷ old → bytes_of_change bytes ≡ get (found old) from → is_whole ≡ is_synced old from → IsRenamed from to old new
+renames old new arrived gone bytes is_whole from to distinct goes comes made has whole =
+    subst (λ (v : List ℕ × List ℕ × List Event). IsRenamed v.0 v.1 old v.2) (λ i. (goes i, comes i, sym made i))
+    (moved_there old arrived gone bytes is_whole (λ same. distinct (sym comes ∙ same ∙ goes)) (has ∙ ap (get (found old)) (sym goes)) (whole ∙ ap (is_synced old) (sym goes)))
 
 -- each content that a crash may leave under one name is left by some crash
 pub may_be_left : (events : List Event) (name : List ℕ) (left : Option (List ℕ)) → MayStand events name left

@@ -1,11 +1,12 @@
 -- A disk with a cache: what a read finds, and what a crash may leave.
-use Rattle.std.specs.Prelude.{◌≡◌, ◌⊎◌, ◌-◌, ◌||◌, ℕ, Bool, true, List, [], ◌∷◌, length, drop, Option, None, MatchBool}
+use Rattle.std.specs.Prelude.{◌≡◌, ◌⊎◌, ◌-◌, ◌||◌, ℕ, Bool, true, IsTrue, List, [], ◌∷◌, length, drop, Option, None, MatchBool}
 use Rattle.std.proofs.Common.{cond}
 use Rattle.disk.specs.Words.{bytes_eq, empty, get}
 use Rattle.disk.specs.declared.cached.Event.{Event}
 use Rattle.disk.specs.declared.cached.Event.TheVariants.{Changed, FileSynced, NamesSynced, Restarted}
+use Rattle.disk.specs.declared.cached.MemFile.{MemFile}
 use Rattle.disk.specs.Files.{Files}
-use Rattle.disk.specs.Crashes.{History}
+use Rattle.disk.specs.Crashes.{History, DiskState}
 use Rattle.disk.specs.Changes.{bytes_of_change, bound}
 
 -- the files as a read finds them, after these events. The newest event comes first.
@@ -40,3 +41,15 @@ MayStay events left = (name : List ℕ) → MayStand events name (get left name)
 
 abbrev pub cached_history : List Event → History
 cached_history events = record { now = length events; at = λ t files. MayStay (drop (length events - t) events) files }
+
+-- the disk after these events, on which each open file is current
+abbrev pub cached_state : List Event → DiskState MemFile
+cached_state events = record {
+  files = found events;
+  history = cached_history events;
+  Synced = λ name. IsTrue (is_synced events name);
+  IsCurrent = λ file. Unit {0};
+}
+
+abbrev pub file_name : MemFile → List ℕ
+file_name file = file.name.items

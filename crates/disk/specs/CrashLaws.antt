@@ -1,10 +1,10 @@
 -- What crashes leave after more than one call.
 use Rattle.std.specs.Prelude.{◌≡◌, ◌≢◌, ℕ, List, Option, Result, OnOk}
-use Rattle.std.proofs.Common.{inl, inr, ⊎_elim, Ok, Err, refl, ◌∙◌, subst, arith}
-use Rattle.disk.specs.Words.{cases_lt}
+use Rattle.std.proofs.Common.{inl, inr, ⊎_elim, Ok, Err, refl, ap, ◌∙◌, subst, arith}
+use Rattle.disk.specs.Words.{cases_lt, get}
 use Rattle.disk.specs.Files.{Files, Same, SameBut}
-use Rattle.disk.specs.Crashes.{History, Leaves}
-use Rattle.disk.specs.Calls.{Replaces}
+use Rattle.disk.specs.Crashes.{DiskState, History, Leaves}
+use Rattle.disk.specs.Calls.{ChangesOnly, IsUnchanged, Replaces}
 
 -- two calls in a row, whose changes combine into one
 pub follows : (First Second Both : Files → Files → Type 0) (a b c : History)
@@ -32,53 +32,6 @@ weaker Change More a b more first = record {
   each = λ t files begun over left. let was = first.each t files begun over left in (was.0, was.1, more was.0 files was.2);
 }
 
--- two calls in a row that change only this file
-pub both_but : (name : List ℕ) (a b c : History) → Leaves (SameBut name) a b → Leaves (SameBut name) b c → Leaves (SameBut name) a c
-both_but name a b c = follows (SameBut name) (SameBut name) (SameBut name) a b c (λ x y kept. kept) (λ x y z first second other apart. second other apart ∙ first other apart)
-
--- a call that changes only this file, and then one that changes no file
-pub but_same : (name : List ℕ) (a b c : History) → Leaves (SameBut name) a b → Leaves Same b c → Leaves (SameBut name) a c
-but_same name a b c = follows (SameBut name) Same (SameBut name) a b c (λ x y kept. kept) (λ x y z first second other apart. second other ∙ first other apart)
-
-pub both_same : (a b c : History) → Leaves Same a b → Leaves Same b c → Leaves Same a c
-both_same a b c = follows Same Same Same a b c (λ x y kept. kept) (λ x y z first second name. second name ∙ first name)
-
-module _ (from to : List ℕ) (moved : Option (List ℕ)) where
-  -- while only `from` changes, nothing is replaced
-  pub replaces_none : to ≢ from → (x y : Files) → SameBut from x y → Replaces from to moved x y
-  replaces_none apart x y kept = record { others = λ other far near. kept other far; whole = inl (kept to apart) }
-
-  pub replaces_both : (x y z : Files) → Replaces from to moved x y → Replaces from to moved y z → Replaces from to moved x z
-  replaces_both x y z first second = record {
-    others = λ other far near. second.others other far near ∙ first.others other far near;
-    whole = ⊎_elim (λ same. ⊎_elim (λ was. inl (same ∙ was)) (λ new. inr (same ∙ new)) first.whole) (λ new. inr new) second.whole;
-  }
-
-  pub replaces_same : (x y z : Files) → Replaces from to moved x y → Same y z → Replaces from to moved x z
-  replaces_same x y z first same = record {
-    others = λ other far near. same other ∙ first.others other far near;
-    whole = ⊎_elim (λ was. inl (same to ∙ was)) (λ new. inr (same to ∙ new)) first.whole;
-  }
-
-  -- a file is made under the name `from`, and then replaces `to`
-  pub but_replaces : to ≢ from → (a b c : History) → Leaves (SameBut from) a b → Leaves (Replaces from to moved) b c → Leaves (Replaces from to moved) a c
-  but_replaces apart a b c = follows (SameBut from) (Replaces from to moved) (Replaces from to moved) a b c (replaces_none apart) (λ x y z first second. replaces_both x y z (replaces_none apart x y first) second)
-
-  pub then_same : (a b c : History) → Leaves (Replaces from to moved) a b → Leaves Same b c → Leaves (Replaces from to moved) a c
-  then_same a b c = follows (Replaces from to moved) Same (Replaces from to moved) a b c (λ x y kept. kept) replaces_same
-
-  -- afterwards only `from` changes
-  pub then_but : to ≢ from → (a b c : History) → Leaves (Replaces from to moved) a b → Leaves (SameBut from) b c → Leaves (Replaces from to moved) a c
-  then_but apart a b c = follows (Replaces from to moved) (SameBut from) (Replaces from to moved) a b c (λ x y kept. kept) (λ x y z first second. replaces_both x y z first (replaces_none apart y z second))
-
-  pub only_but : to ≢ from → (a b : History) → Leaves (SameBut from) a b → Leaves (Replaces from to moved) a b
-  only_but apart a b = weaker (SameBut from) (Replaces from to moved) a b (replaces_none apart)
-
--- what holds in any case holds after `Ok`
-pub always_ok : {T E : Type 0} (r : Result T E) {P : Type 0} → P → OnOk r P
-always_ok (Ok x) p = p
-always_ok (Err e) p = tt
-
 -- no call at all
 pub unmoved : (history : History) → Leaves Same history history
 unmoved history = record {
@@ -86,3 +39,49 @@ unmoved history = record {
   past = λ t files le. (λ left. left, λ left. left);
   each = λ t files from to left. let is : t ≡ history.now = omega arith in (files, subst (λ n. history.at n files) is left, λ name. refl);
 }
+
+module _ {File : Type 0} where
+  -- no call, and two calls in a row that leave all files as they are
+  pub stays : (disk : DiskState File) → IsUnchanged disk disk
+  stays disk = record { files = refl; crash = unmoved disk.history; current = λ file current. current }
+
+  pub stays_again : {a b c : DiskState File} → IsUnchanged a b → IsUnchanged b c → IsUnchanged a c
+  stays_again {a} {b} {c} first second = record {
+    files = second.files ∙ first.files;
+    crash = follows Same Same Same a.history b.history c.history (λ x y same. same) (λ x y z early late name. late name ∙ early name) first.crash second.crash;
+    current = λ file current. second.current file (first.current file current);
+  }
+
+  -- two calls in a row that change only this file, and then one that changes no file
+  pub changes_again : {name_of : File → List ℕ} {name other : List ℕ} {a b c : DiskState File} → ChangesOnly name_of name a b → other ≡ name → ChangesOnly name_of other b c → ChangesOnly name_of name a c
+  changes_again {name_of} {name} {other} {a} {b} {c} first is second = record {
+    files = λ far apart. second.files far (λ same. apart (same ∙ is)) ∙ first.files far apart;
+    crash = follows (SameBut name) (SameBut other) (SameBut name) a.history b.history c.history (λ x y kept. kept) (λ x y z early late far apart. late far (λ same. apart (same ∙ is)) ∙ early far apart) first.crash second.crash;
+    current = λ file apart current. second.current file (λ same. apart (same ∙ is)) (first.current file apart current);
+  }
+
+  pub then_stays : {name_of : File → List ℕ} {name : List ℕ} {a b c : DiskState File} → ChangesOnly name_of name a b → IsUnchanged b c → ChangesOnly name_of name a c
+  then_stays {name_of} {name} {a} {b} {c} first same = record {
+    files = λ far apart. ap (λ (files : Files). get files far) same.files ∙ first.files far apart;
+    crash = follows (SameBut name) Same (SameBut name) a.history b.history c.history (λ x y kept. kept) (λ x y z early late far apart. late far ∙ early far apart) first.crash same.crash;
+    current = λ file apart current. same.current file (first.current file apart current);
+  }
+
+module _ (from to : List ℕ) (moved : Option (List ℕ)) where
+  pub replaces_again : {a b c : History} → Leaves (Replaces from to moved) a b → Leaves (Replaces from to moved) b c → Leaves (Replaces from to moved) a c
+  replaces_again {a} {b} {c} = follows (Replaces from to moved) (Replaces from to moved) (Replaces from to moved) a b c (λ x y kept. kept) (λ x y z first second. record {
+    others = λ other far near. second.others other far near ∙ first.others other far near;
+    whole = ⊎_elim (λ same. ⊎_elim (λ was. inl (same ∙ was)) (λ new. inr (same ∙ new)) first.whole) (λ new. inr new) second.whole;
+  })
+
+  -- while only `from` changes, or nothing, nothing is replaced
+  pub only_but : {a b : History} → to ≢ from → Leaves (SameBut from) a b → Leaves (Replaces from to moved) a b
+  only_but {a} {b} apart = weaker (SameBut from) (Replaces from to moved) a b (λ x y kept. record { others = λ other far near. kept other far; whole = inl (kept to apart) })
+
+  pub only_same : {a b : History} → Leaves Same a b → Leaves (Replaces from to moved) a b
+  only_same {a} {b} = weaker Same (Replaces from to moved) a b (λ x y same. record { others = λ other far near. same other; whole = inl (same to) })
+
+-- what holds in any case holds after `Ok`
+pub always_ok : {T E : Type 0} (r : Result T E) {P : Type 0} → P → OnOk r P
+always_ok (Ok x) p = p
+always_ok (Err e) p = tt

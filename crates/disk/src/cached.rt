@@ -1,6 +1,6 @@
 //! A disk in memory with a cache: a crash may lose what was not synced.
-ghost use Rattle.std.specs.Prelude.{◌≡◌, ◌↔◌, ◌++◌, ◌<◌, ◌≤◌, [], true, drop, length, take, IsTrue, IfOk, OnOk, MatchOption};
-ghost use Rattle.disk.specs.Clauses.{empty, get, Failed, Files, Same, SameBut, MayLeave, Leaves, HasCause, bytes_of_change, IsFound, found, is_synced, MayStand, cached_history, found_may_stay};
+ghost use Rattle.std.specs.Prelude.{◌≡◌, ◌↔◌, ◌++◌, ◌<◌, ◌≤◌, [], true, drop, length, option_copied, take, IsTrue, IfOk, OnOk};
+ghost use Rattle.disk.specs.Clauses.{empty, get, Failed, Files, Same, MayLeave, HasCause, bytes_of_change, found, is_synced, MayStand, cached_state, file_name, ChangesOnly, IsUnchanged, found_may_stay};
 
 use crate::disk::{Disk, DiskFault};
 use crate::failing::{Failing, failed};
@@ -35,10 +35,9 @@ pub struct CachedMemDisk {
     failing: Failing,
 }
 
-/// What the last change of a name left under it, if there was one.
-fn latest<'a>(events: &'a [Event], name: &[u8]) -> Option<&'a Option<Vec<u8>>>
-    ensures { let there = get (found events.now) name.now in
-        MatchOption result (there ≡ None) (λ bytes. there ≡ bytes_of_change bytes.now) }
+/// The bytes of the file with this name, as a read finds them.
+fn latest<'a>(events: &'a [Event], name: &[u8]) -> Option<&'a Vec<u8>>
+    ensures { get (found events.now) name.now ≡ bytes_of_change (option_copied result) }
 {
     let mut rest = events;
     while let [event, older @ ..] = rest {
@@ -47,7 +46,7 @@ fn latest<'a>(events: &'a [Event], name: &[u8]) -> Option<&'a Option<Vec<u8>>>
                 name: other,
                 bytes,
                 ..
-            } if name == other.as_slice() => return Some(bytes),
+            } if name == other.as_slice() => return bytes.as_ref(),
             _ => {}
         }
         rest = older;
@@ -77,23 +76,14 @@ fn are_bytes_synced(events: &[Event], name: &[u8]) -> bool
 }
 
 /// Whether two files have the same bytes, or are both missing.
-fn is_same(left: &Option<Vec<u8>>, right: &Option<Vec<u8>>) -> bool
-    ensures { IsTrue result ↔ (bytes_of_change left.now ≡ bytes_of_change right.now) }
+fn is_same(left: &Option<Vec<u8>>, right: Option<&Vec<u8>>) -> bool
+    ensures { IsTrue result
+        ↔ (bytes_of_change left.now ≡ bytes_of_change (option_copied right.entry)) }
 {
     match (left, right) {
         (Some(left), Some(right)) => left.as_slice() == right.as_slice(),
         (None, None) => true,
         (None, Some(_)) | (Some(_), None) => false,
-    }
-}
-
-/// Whether a read finds this under a name.
-fn is_found(events: &[Event], name: &[u8], left: &Option<Vec<u8>>) -> bool
-    ensures { IsTrue result ↔ (bytes_of_change left.now ≡ get (found events.now) name.now) }
-{
-    match latest(events, name) {
-        Some(bytes) => is_same(left, bytes),
-        None => left.is_none(),
     }
 }
 
@@ -108,11 +98,12 @@ fn may_stand(events: &[Event], name: &[u8], left: &Option<Vec<u8>>) -> bool
                 name: other,
                 bytes,
                 is_whole,
-            } if name == other.as_slice() && (!*is_whole || is_same(left, bytes)) => return true,
+            } if name == other.as_slice() && (!*is_whole || is_same(left, bytes.as_ref())) =>
+                return true,
             Event::NamesSynced if are_bytes_synced(older, name) => {
-                return is_found(older, name, left);
+                return is_same(left, latest(older, name));
             }
-            Event::Restarted => return is_found(older, name, left),
+            Event::Restarted => return is_same(left, latest(older, name)),
             Event::Changed { .. } | Event::FileSynced(_) | Event::NamesSynced => {}
         }
         rest = older;
@@ -121,6 +112,7 @@ fn may_stand(events: &[Event], name: &[u8], left: &Option<Vec<u8>>) -> bool
 }
 
 /// Gives a name these bytes, or none.
+#[tactic(auto, using(crate::proofs::Events::binds))]
 fn change(
     alloc: Global,
     events: &mut Vec<Event>,
@@ -129,9 +121,8 @@ fn change(
     is_whole: bool,
 ) -> Result<(), AllocError>
     ensures bound { OnOk result (get (found events.new.items) name.now ≡ bytes_of_change bytes) }
-    ensures others { SameBut name.now (found events.old.items) (found events.new.items) }
-    ensures crash { Leaves (SameBut name.now)
-        (cached_history events.old.items) (cached_history events.new.items) }
+    ensures others { ChangesOnly file_name name.now
+        (cached_state events.old.items) (cached_state events.new.items) }
 {
     let name = Vec::from_slice(alloc, name)?;
     let changed = Event::Changed {
@@ -146,7 +137,7 @@ fn change(
 impl CachedMemDisk {
     /// A disk without files, no call of which fails.
     pub fn new(alloc: Global) -> CachedMemDisk
-        ensures files { ⟦<CachedMemDisk as Disk>⟧.files result ≡ empty }
+        ensures files { (⟦<CachedMemDisk as Disk>⟧.state result).files ≡ empty }
         ensures failures { ⟦<CachedMemDisk as Disk>⟧.failures result ≡ 0 }
     {
         CachedMemDisk {
@@ -159,8 +150,8 @@ impl CachedMemDisk {
     /// Makes the call with this number fail, counted from 0 from now on, or all calls from that one
     /// on.
     pub fn fail_at(&mut self, call: usize, crashes: bool)
-        ensures files { let files = ⟦<CachedMemDisk as Disk>⟧.files in
-            files self.new ≡ files self.old }
+        ensures same { let state = ⟦<CachedMemDisk as Disk>⟧.state in
+            IsUnchanged (state self.old) (state self.new) }
         ensures failures { let failures = ⟦<CachedMemDisk as Disk>⟧.failures in
             failures self.new ≡ failures self.old }
     {
@@ -172,12 +163,12 @@ impl CachedMemDisk {
     /// found. Call `restart` next.
     pub fn crash(&mut self, name: &[u8], left: Option<Vec<u8>>) -> Result<bool, AllocError>
         ensures may { IfOk result (λ may. IsTrue may ↔ ((files : Files)
-            × MayLeave (⟦<CachedMemDisk as Disk>⟧.history self.old) files
+            × MayLeave (⟦<CachedMemDisk as Disk>⟧.state self.old).history files
             × (get files name.now ≡ bytes_of_change left))) }
         ensures left { result ≡ Ok true →
-            get (⟦<CachedMemDisk as Disk>⟧.files self.new) name.now ≡ bytes_of_change left }
-        ensures others { let files = ⟦<CachedMemDisk as Disk>⟧.files in
-            SameBut name.now (files self.old) (files self.new) }
+            get (⟦<CachedMemDisk as Disk>⟧.state self.new).files name.now ≡ bytes_of_change left }
+        ensures others { let state = ⟦<CachedMemDisk as Disk>⟧.state in
+            ChangesOnly file_name name.now (state self.old) (state self.new) }
     {
         if !may_stand(&self.events, name, &left) {
             return Ok(false);
@@ -188,11 +179,11 @@ impl CachedMemDisk {
 
     /// The disk works again, and has what a read finds.
     pub fn restart(&mut self) -> Result<(), AllocError>
-        ensures files { let files = ⟦<CachedMemDisk as Disk>⟧.files in
-            files self.new ≡ files self.old }
-        ensures kept { OnOk result ((files : Files)
-            → MayLeave (⟦<CachedMemDisk as Disk>⟧.history self.new) files
-            → Same (⟦<CachedMemDisk as Disk>⟧.files self.old) files) }
+        ensures files { let state = ⟦<CachedMemDisk as Disk>⟧.state in
+            (state self.new).files ≡ (state self.old).files }
+        ensures kept { let state = ⟦<CachedMemDisk as Disk>⟧.state in
+            OnOk result ((files : Files)
+            → MayLeave (state self.new).history files → Same (state self.old).files files) }
         ensures failures { let failures = ⟦<CachedMemDisk as Disk>⟧.failures in
             failures self.new ≡ failures self.old }
     {
@@ -201,16 +192,17 @@ impl CachedMemDisk {
         Ok(())
     }
 
-    /// Counts a call, and finds the bytes of the file with this name.
-    fn look(&mut self, name: &[u8]) -> Result<Option<Vec<u8>>, DiskFault>
+    /// Counts a call, and finds the bytes of the file with this name. It fails if there is none.
+    fn look(&mut self, name: &[u8]) -> Result<Vec<u8>, DiskFault>
         ensures events { self.new.events.items ≡ self.old.events.items }
         ensures cause { HasCause Failed self.old.failing.failures self.new.failing.failures result }
-        ensures found { IfOk result (IsFound (get (found self.old.events.items) name.now)) }
+        ensures found { IfOk result
+            (λ bytes. get (found self.old.events.items) name.now ≡ Some bytes.items) }
     {
         self.failing.count_call()?;
         match latest(&self.events, name) {
-            Some(Some(bytes)) => Ok(Some(bytes.to_vec(self.alloc)?)),
-            Some(None) | None => Ok(None),
+            Some(bytes) => Ok(bytes.to_vec(self.alloc)?),
+            None => Err(failed(&mut self.failing.failures)),
         }
     }
 }
@@ -220,38 +212,30 @@ impl Disk for CachedMemDisk {
 
     ghost honest = { true };
 
-    ghost files = { λ disk. found disk.events.items };
-
-    ghost history = { λ disk. cached_history disk.events.items };
-
-    ghost Synced = { λ disk name. IsTrue (is_synced disk.events.items name) };
+    ghost state = { λ disk. cached_state disk.events.items };
 
     ghost failures = { λ disk. disk.failing.failures };
 
-    ghost name_of = { λ file. file.name.items };
+    ghost name_of = { file_name };
 
     ghost rest_of = { λ file. drop file.at file.bytes.items };
-
-    ghost IsCurrent = { λ disk file. Unit {0} };
 
     ghost stays = { λ disk honest. found_may_stay disk.events.items };
 
     #[tactic(auto, using(crate::proofs::Events::still_same))]
     fn has_file(&mut self, name: &[u8]) -> Result<bool, DiskFault> {
-        Ok(self.look(name)?.is_some())
+        self.failing.count_call()?;
+        Ok(latest(&self.events, name).is_some())
     }
 
     #[tactic(auto, using(crate::proofs::Events::still_same))]
     fn open(&mut self, name: &[u8]) -> Result<(MemFile, u64), DiskFault> {
-        let Some(bytes) = self.look(name)? else {
-            return Err(failed(&mut self.failing.failures));
-        };
+        let bytes = self.look(name)?;
         let name = Vec::from_slice(self.alloc, name)?;
         let len = bytes.len() as u64;
         Ok((MemFile { name, bytes, at: 0 }, len))
     }
 
-    #[tactic(auto, using(crate::proofs::Events::still_same))]
     fn read(&mut self, file: &mut MemFile, piece: &mut [u8]) -> Result<usize, DiskFault> {
         self.failing.count_call()?;
         Ok(file.take(piece))
@@ -270,14 +254,11 @@ impl Disk for CachedMemDisk {
     }
 
     fn append(&mut self, file: &mut MemFile, bytes: &[u8]) -> Result<(), DiskFault> {
-        let Some(mut all) = self.look(&file.name)? else {
-            return Err(failed(&mut self.failing.failures));
-        };
+        let mut all = self.look(&file.name)?;
         all.extend_from_slice(bytes)?;
         Ok(change(self.alloc, &mut self.events, &file.name, Some(all), false)?)
     }
 
-    #[tactic(auto, using(crate::proofs::Events::still_same))]
     fn sync(&mut self, file: &MemFile) -> Result<(), DiskFault> {
         self.failing.count_call()?;
         let name = Vec::from_slice(self.alloc, &file.name)?;
@@ -286,9 +267,7 @@ impl Disk for CachedMemDisk {
     }
 
     fn rename(&mut self, from: &[u8], to: &[u8]) -> Result<(), DiskFault> {
-        let Some(bytes) = self.look(from)? else {
-            return Err(failed(&mut self.failing.failures));
-        };
+        let bytes = self.look(from)?;
         let is_whole = are_bytes_synced(&self.events, from);
         let to = Vec::from_slice(self.alloc, to)?;
         let from = Vec::from_slice(self.alloc, from)?;
@@ -309,14 +288,11 @@ impl Disk for CachedMemDisk {
     }
 
     fn remove(&mut self, name: &[u8]) -> Result<(), DiskFault> {
-        if self.look(name)?.is_none() {
-            return Ok(());
-        }
+        self.failing.count_call()?;
         Ok(change(self.alloc, &mut self.events, name, None, true)?)
     }
 
     // Running out of memory is reported as a failure, since this call may not report anything else.
-    #[tactic(auto, using(crate::proofs::Events::still_same))]
     fn sync_names(&mut self) -> Result<(), DiskFault> {
         self.failing.count_call()?;
         if self.events.insert(0, Event::NamesSynced).is_err() {

@@ -48,7 +48,7 @@ impl<'a, R: Files<File = File>> HostDisk<'a, R> {
     }
 
     /// The result of a call. A failure is counted.
-    fn told<T: Drop>(&mut self, answer: io::Result<T>) -> Result<T, DiskFault>
+    fn counted<T: Drop>(&mut self, answer: io::Result<T>) -> Result<T, DiskFault>
         ensures cause { HasCause Failed self.old.failures self.new.failures result }
         ensures ok { IfOk result (λ value. answer ≡ Ok value) }
         ensures fault { OnErr result (result ≡ Err Failed) }
@@ -83,11 +83,12 @@ impl<'a, R: Files<File = File>> Disk for HostDisk<'a, R> {
 
     ghost honest = { false };
 
-    ghost files = { λ disk. empty };
-
-    ghost history = { λ disk. record { now = 0; at = λ t files. Unit {0} } };
-
-    ghost Synced = { λ disk name. ⊥ };
+    ghost state = { λ disk. record {
+      files = empty;
+      history = record { now = 0; at = λ t files. Unit {0} };
+      Synced = λ name. ⊥;
+      IsCurrent = λ file. ⊥;
+    } };
 
     ghost failures = { λ disk. disk.failures };
 
@@ -95,49 +96,47 @@ impl<'a, R: Files<File = File>> Disk for HostDisk<'a, R> {
 
     ghost rest_of = { λ file. [] };
 
-    ghost IsCurrent = { λ disk file. ⊥ };
-
     ghost stays = { λ disk honest. tt };
 
     fn has_file(&mut self, name: &[u8]) -> Result<bool, DiskFault> {
         let path = self.path(name)?;
-        self.told(is_there(self.rt, path.as_path()))
+        self.counted(is_there(self.rt, path.as_path()))
     }
 
     fn open(&mut self, name: &[u8]) -> Result<(File, u64), DiskFault> {
         let path = self.path(name)?;
-        self.told(open_file(self.rt, path.as_path()))
+        self.counted(open_file(self.rt, path.as_path()))
     }
 
     fn read(&mut self, file: &mut File, piece: &mut [u8]) -> Result<usize, DiskFault> {
-        self.told(read_some(file, piece))
+        self.counted(read_some(file, piece))
     }
 
     fn create(&mut self, name: &[u8], place: &[u8]) -> Result<File, DiskFault> {
         let (path, place) = (self.path(name)?, self.path(place)?);
-        self.told(create_file(self.rt, path.as_path(), place.as_path()))
+        self.counted(create_file(self.rt, path.as_path(), place.as_path()))
     }
 
     fn append(&mut self, file: &mut File, bytes: &[u8]) -> Result<(), DiskFault> {
-        self.told(file.write_all(bytes))
+        self.counted(file.write_all(bytes))
     }
 
     fn sync(&mut self, file: &File) -> Result<(), DiskFault> {
-        self.told(sync_file(file))
+        self.counted(sync_file(file))
     }
 
     fn rename(&mut self, from: &[u8], to: &[u8]) -> Result<(), DiskFault> {
         let (from, to) = (self.path(from)?, self.path(to)?);
-        self.told(rename_file(self.rt, from.as_path(), to.as_path()))
+        self.counted(rename_file(self.rt, from.as_path(), to.as_path()))
     }
 
     fn remove(&mut self, name: &[u8]) -> Result<(), DiskFault> {
         let path = self.path(name)?;
-        self.told(remove_file(self.rt, path.as_path()))
+        self.counted(remove_file(self.rt, path.as_path()))
     }
 
     fn sync_names(&mut self) -> Result<(), DiskFault> {
         let answer = sync_folder(self.rt, Path::new(self.dir.as_str()));
-        self.told(answer)
+        self.counted(answer)
     }
 }

@@ -1,10 +1,10 @@
 //! The calls of the operating system that a folder needs, each repeated if a signal interrupts it,
 //! and what their errors become. `docs/DECISIONS.md` has the table of calls, errors and answers.
-ghost use Rattle.std.specs.Prelude.{IfErr, IfOk, IsErrAnd, IsTrue, OnOk, length, ◌↔◌, ◌≡◌, ◌≢◌, ◌≤◌};
+ghost use Rattle.std.specs.Prelude.{IfErr, IfOk, IsErrAnd, OnOk, length, ◌≡◌, ◌≢◌, ◌≤◌};
 ghost use Rattle.disk.specs.Clauses.{IsUnsupported, error_kind};
 
 use std::fs::{File, Metadata, OpenFile, OpenOptions, Permissions};
-use std::io::{Error, ErrorKind, Read};
+use std::io::{ErrorKind, Read};
 use std::os::unix::fs::{MetadataExt, OpenOptionsExt, PermissionsExt};
 use std::path::Path;
 use std::rt::Files;
@@ -43,18 +43,10 @@ pub(crate) fn is_there<R: Files>(rt: &R, path: Path) -> io::Result<bool> {
     }
 }
 
-fn open<R: Files>(rt: &R, path: Path) -> io::Result<R::File> {
-    uninterrupted(|| fs::open(rt, path))
-}
-
 fn open_to_write<R: Files>(rt: &R, path: Path) -> io::Result<R::File> {
     let mut options = OpenOptions::new();
     options.write(true);
     uninterrupted(|| options.open(rt, path))
-}
-
-fn metadata_of<F: OpenFile>(file: &F) -> io::Result<Metadata> {
-    uninterrupted(|| file.metadata())
 }
 
 /// Opens a regular file, and returns its length. Anything else, such as a folder or a pipe, is not
@@ -63,8 +55,8 @@ pub(crate) fn open_file<R: Files>(rt: &R, path: Path) -> io::Result<(R::File, u6
     if !is_there(rt, path)? {
         return Err(io::Error::from(ErrorKind::NotFound));
     }
-    let file = open(rt, path)?;
-    let len = metadata_of(&file)?.len();
+    let file = uninterrupted(|| fs::open(rt, path))?;
+    let len = uninterrupted(|| file.metadata())?.len();
     Ok((file, len))
 }
 
@@ -106,7 +98,7 @@ fn sync_opened<F: OpenFile + Drop>(folder: io::Result<F>) -> io::Result<()>
 /// Syncs the names in a folder to the disk, if its file system can do that. It fails if the folder
 /// cannot be opened, even if the folder's mode forbids it, since the names may not last then.
 pub(crate) fn sync_folder<R: Files>(rt: &R, dir: Path) -> io::Result<()> {
-    sync_opened(open(rt, dir))
+    sync_opened(uninterrupted(|| fs::open(rt, dir)))
 }
 
 /// Whether two looks saw the same file.
@@ -117,7 +109,7 @@ fn is_same(one: &Metadata, other: &Metadata) -> bool {
 /// Whether an open file is the one at a path.
 fn lies_at<R: Files<File = File>>(rt: &R, file: &File, path: Path) -> io::Result<bool> {
     match look_at(rt, path)? {
-        Some(there) => Ok(is_same(&metadata_of(file)?, &there)),
+        Some(there) => Ok(is_same(&uninterrupted(|| file.metadata())?, &there)),
         None => Ok(false),
     }
 }
@@ -137,13 +129,13 @@ fn open_leftover<R: Files<File = File>>(rt: &R, path: Path, left: &Metadata) -> 
         Err(error) if error.kind() == ErrorKind::PermissionDenied => {}
         answer => return answer,
     }
-    match open(rt, path) {
+    match uninterrupted(|| fs::open(rt, path)) {
         Err(error) if error.kind() == ErrorKind::PermissionDenied => {}
         answer => return answer,
     }
     uninterrupted(|| fs::set_permissions(rt, path, Permissions::from_mode(PRIVATE_MODE)))?;
     let file = open_to_write(rt, path)?;
-    if is_same(&metadata_of(&file)?, left) {
+    if is_same(&uninterrupted(|| file.metadata())?, left) {
         uninterrupted(|| file.set_permissions(left.permissions()))?;
     }
     Ok(file)
@@ -182,7 +174,7 @@ fn claim_file<R: Files<File = File>>(rt: &R, path: Path, mode: u32) -> io::Resul
 
 /// Gives a new file the mode of the file that it is to replace.
 fn take_mode(file: &File, old: &Metadata) -> io::Result<()> {
-    if metadata_of(file)?.mode() == old.mode() {
+    if uninterrupted(|| file.metadata())?.mode() == old.mode() {
         return Ok(());
     }
     uninterrupted(|| file.set_permissions(old.permissions()))
@@ -211,7 +203,8 @@ pub(crate) fn create_file<R: Files<File = File>>(
     }
 }
 
-/// Whether an error says that the file system does not support a call, and not that it failed:
+/// Ignores an error that says that the file system does not support the call, and not that it
+/// failed:
 ///
 /// - `EINVAL`, for a sync "fd is bound to a special file which does not support synchronization"
 ///   (fsync(2)), for a lock "operation is invalid" (flock(2));
@@ -222,22 +215,17 @@ pub(crate) fn create_file<R: Files<File = File>>(
 /// folder is no special file, and just after a write it says that a fault has made the file system
 /// read-only. `ENOLCK` is one as well: "the kernel ran out of memory for allocating lock records"
 /// (flock(2)).
-fn is_unsupported(error: &Error) -> bool
-    ensures { IsTrue result ↔ IsUnsupported (error_kind error.now) }
-{
-    let kind = error.kind();
-    kind == ErrorKind::InvalidInput || kind == ErrorKind::Unsupported
-}
-
-/// Ignores an error that says that the file system does not support the call.
 pub(crate) fn where_supported(answer: io::Result<()>) -> io::Result<()>
     ensures passed { OnOk result (IfErr answer (λ error. IsUnsupported (error_kind error))) }
     ensures failed { IfErr answer
         (λ error. ¬ IsUnsupported (error_kind error) → result ≡ Err error) }
 {
     match answer {
-        Err(error) if is_unsupported(&error) => Ok(()),
-        answer => answer,
+        Ok(()) => Ok(()),
+        Err(error) => match error.kind() {
+            ErrorKind::InvalidInput | ErrorKind::Unsupported => Ok(()),
+            _ => Err(error),
+        },
     }
 }
 

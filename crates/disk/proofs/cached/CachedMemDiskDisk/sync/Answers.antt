@@ -1,7 +1,15 @@
-use Rattle.std.proofs.Common.{sym, subst, List}
-use Rattle.disk.proofs.Words.{Event, Same, Leaves, cached_history}
-use Rattle.disk.proofs.Events.{file_synced}
+use Rattle.std.proofs.Common.{refl}
+use Rattle.disk.proofs.Events.{file_synced, still_same}
 use Rattle.disk.proofs.cached.CachedMemDiskDisk.sync.Goals as goal
 
-pub returns-clause-crash : goal.returns-clause-crash
-returns-clause-crash c = λ honest. subst (λ (l : List Event). Leaves Same (cached_history c.args.self.now.events.items) (cached_history l)) (sym c.in_ok-insert.ensures.items) (file_synced c.args.self.now.events.items c.in_ok-name.name)
+pub returns-in_err-count_call-clause-same : goal.returns-in_err-count_call-clause-same
+returns-in_err-count_call-clause-same c = λ honest. still_same _ _ refl
+
+pub returns-in_err-name-clause-same : goal.returns-in_err-name-clause-same
+returns-in_err-name-clause-same c = λ honest. still_same _ _ refl
+
+pub returns-in_err-insert-clause-same : goal.returns-in_err-insert-clause-same
+returns-in_err-insert-clause-same c = λ honest. still_same _ _ c.in_err-insert.ensures.items
+
+pub returns-clause-same : goal.returns-clause-same
+returns-clause-same c = λ honest. file_synced _ _ _ c.in_ok-insert.ensures.items

@@ -1,9 +1,17 @@
-use Rattle.std.proofs.Common.{◌≡◌, ◌∷◌, subst, rules, List}
-use Rattle.disk.proofs.Words.{Event, NamesSynced, Same, Leaves, cached_history}
-use Rattle.disk.proofs.Events.{names_synced}
+use Rattle.std.proofs.Common.{◌≡◌, ◌∷◌, refl, rules}
+use Rattle.disk.proofs.Words.{NamesSynced}
+use Rattle.disk.proofs.Events.{names_synced, still_same}
 use Rattle.disk.proofs.cached.CachedMemDiskDisk.sync_names.Goals as goal
 
-pub returns-clause-crash : goal.returns-clause-crash
-returns-clause-crash c = λ honest.
-    let added : NamesSynced ∷ c.args.self.now.events.items ≡ c.insert.new.self.items = search rules in
-    subst (λ (l : List Event). Leaves Same (cached_history c.args.self.now.events.items) (cached_history l)) added (names_synced c.args.self.now.events.items)
+pub returns-in_err-count_call-clause-same : goal.returns-in_err-count_call-clause-same
+returns-in_err-count_call-clause-same c = λ honest. still_same _ _ refl
+
+pub returns-then-is_err-clause-same : goal.returns-then-is_err-clause-same
+returns-then-is_err-clause-same c = λ honest.
+    let same : c.insert.new.self.items ≡ c.args.self.now.events.items = search rules in
+    still_same _ _ same
+
+pub returns-clause-same : goal.returns-clause-same
+returns-clause-same c = λ honest.
+    let added : c.insert.new.self.items ≡ NamesSynced ∷ c.args.self.now.events.items = search rules in
+    names_synced _ _ added
