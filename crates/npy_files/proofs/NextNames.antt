@@ -1,7 +1,7 @@
 -- The first name after another one, found by going through a list of files.
 use Rattle.std.proofs.Common.{◌≡◌, ◌<◌, ◌≤◌, ◌+◌, ℕ, zero, suc, Bool, true, false, List, [], ◌∷◌, map, length, refl, sym, ap, subst, ◌∙◌, cond, Option, Some, None, IsSome, MatchOption, arith, ◌⊎◌, inl, inr, is_some}
-use Rattle.npy_files.proofs.Words.{eq-or-lt_of_le, nat_cmp, is_lt, eq_by_cmp, ordering_reverse, slice_cmp, nat_list_cmp_total, texts_ties, find, get-from_entries, Ordering, Less, Equal, Greater, true≢false, false_from_ne_true, slice_get_within, bytes_eq-Decides, StoredFile, comes_before, IsFirstAfter, IsNextName, named_bytes, files_of, IsNamed, IsFirstOf}
-use Rattle.npy_files.proofs.StoreLaws.{tied_same}
+use Rattle.npy_files.proofs.Words.{eq-or-lt_of_le, nat_cmp, is_lt, eq_by_cmp, ordering_reverse, slice_cmp, nat_list_cmp_total, find, get-from_entries, Ordering, Less, Equal, Greater, true≢false, false_from_ne_true, slice_get_within, StoredFile, comes_before, IsFirstAfter, IsNextName, named_bytes, files_of, IsNamed, IsFirstOf}
+use Rattle.npy_files.proofs.StoreLaws.{tied_same, ties}
 
 -- ---- the order of names
 
@@ -98,9 +98,6 @@ module _ (files : List StoredFile) (after : List ℕ) (count : ℕ) (name : List
 
 -- ---- the names of the map
 
-tied : (a b : List ℕ) → a ≡ b → eq_by_cmp (slice_cmp nat_cmp) a b ≡ true
-tied a b e = sym (texts_ties a b) ∙ (bytes_eq-Decides a b).1 e
-
 found_at : {X : Type 0} (b : Bool) (x y : Option X) → IsSome x → IsSome y → IsSome (cond b x y)
 found_at true x y p q = p
 found_at false x y p q = q
@@ -114,7 +111,7 @@ listed : (files : List StoredFile) (place : ℕ) (name : List ℕ) → IsNamed f
 listed [] place name is = absurd (true≢false (sym (ap is_some is.1)))
 listed (f ∷ files) zero name is =
     first_found (eq_by_cmp (slice_cmp nat_cmp) name f.name.items) f.bytes.items (find (slice_cmp nat_cmp) name (map named_bytes files))
-    (tied name f.name.items (same_name (f ∷ files) 0 name f.name.items is (f, refl, refl)))
+    (ties name f.name.items (same_name (f ∷ files) 0 name f.name.items is (f, refl, refl)))
 listed (f ∷ files) (suc place) name is =
     found_at (eq_by_cmp (slice_cmp nat_cmp) name f.name.items) (Some f.bytes.items) (find (slice_cmp nat_cmp) name (map named_bytes files)) refl (listed files place name is)
 

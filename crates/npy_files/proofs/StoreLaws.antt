@@ -65,6 +65,9 @@ swapped false b x y z apart = refl
 pub tied_same : (a b : List ℕ) → eq_by_cmp (slice_cmp nat_cmp) a b ≡ true → a ≡ b
 tied_same a b e = (bytes_eq-Decides a b).0 (texts_ties a b ∙ e)
 
+pub ties : (a b : List ℕ) → a ≡ b → by_name a b ≡ true
+ties a b e = sym (texts_ties a b) ∙ (bytes_eq-Decides a b).1 e
+
 -- what is found by any name, once the first file of a name has other bytes
 find-put : (q r : List ℕ) (files : List StoredFile) (k : ℕ) (none new : StoredFile) → IsFirst q files k none → new.name ≡ (get_or files k none).name → find (slice_cmp nat_cmp) r (map named_bytes (slice_set files k new)) ≡ cond (eq_by_cmp (slice_cmp nat_cmp) r q) (Some new.bytes.items) (find (slice_cmp nat_cmp) r (map named_bytes files))
 find-put q r [] k none new is same = absurd (let b = is.below in omega arith)

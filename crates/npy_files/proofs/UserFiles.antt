@@ -1,13 +1,8 @@
 -- The files that a user sees in a folder.
 use Rattle.std.proofs.Common.{◌≡◌, ◌≢◌, ◌≤◌, ⊎_elim, inl, inr, arith, length, ℕ, Bool, true, false, List, Option, Some, None, Ok, Err, Result, IsTrue, cond, refl, sym, ap, ◌∙◌, subst}
-use Rattle.npy_files.proofs.Words.{texts_ties, nat_list_cmp_total, empty, get, insert, get-retain_keys, get-insert, same_map, true≢false, bytes_eq-Decides, Files, SameBut, StoreFault, Device, TooLong, Memory, is_user_name, StoreState, IsRead, IsKept, IsWritten, user_files, folder_shelf, IsPut, HasCause, FaultHasCause, last_count}
-use Rattle.npy_files.proofs.StoreLaws.{exact, by_name}
-
-tied : (a b : List ℕ) → by_name a b ≡ true → a ≡ b
-tied a b is = (bytes_eq-Decides a b).0 (texts_ties a b ∙ is)
-
-ties : (a b : List ℕ) → a ≡ b → by_name a b ≡ true
-ties a b same = sym (texts_ties a b) ∙ (bytes_eq-Decides a b).1 same
+use Rattle.npy_files.proofs.Words.{nat_list_cmp_total, empty, get, insert, get-retain_keys, get-insert, same_map, true≢false, Files, SameBut, StoreFault, Device, TooLong, Memory, is_user_name, StoreState, IsRead, IsKept, IsWritten, user_files, folder_shelf, HasCause, FaultHasCause, last_count}
+use Rattle.npy_files.proofs.StoreLaws.{exact, by_name, tied_same, ties}
+use Rattle.npy_files.proofs.UserNames.{IsPut}
 
 get-user_files : (files : Files) (name : List ℕ) → get (user_files files) name ≡ cond (is_user_name name) (get files name) None
 get-user_files files name = get-retain_keys files is_user_name name (λ other same. ap is_user_name (sym (exact name other same)))
@@ -38,8 +33,8 @@ replaced name bytes old new user put =
     at : (other : List ℕ) → get (user_files new) other ≡ cond (by_name other name) (Some bytes) (get (user_files old) other)
     at other =
         elim (by_name other name) as (λ b. by_name other name ≡ b → get (user_files new) other ≡ cond b (Some bytes) (get (user_files old) other)) [
-          | true ↦ λ is. ap (get (user_files new)) (tied other name is) ∙ user_file new name user ∙ put.done
-          | false ↦ λ no. kept old new other (λ seen. put.others other seen (λ same. true≢false (sym (ties other name same) ∙ no)))
+          | true ↦ λ is. ap (get (user_files new)) (tied_same other name is) ∙ user_file new name user ∙ put.done
+          | false ↦ λ no. kept old new other (λ seen. put.files.others other seen (λ same. true≢false (sym (ties other name same) ∙ no)))
         ] refl
 
 -- the store of a folder whose disk is honest
@@ -48,12 +43,12 @@ plain_shelf files faults limit honest = record { files = user_files files; failu
 
 failed : (name bytes : List ℕ) (old new : Files) (faults limit : ℕ) (honest : Bool) (fault : StoreFault) → IsTrue (is_user_name name)
     → (fault ≡ TooLong → ⊥) → IsPut name bytes (Err fault) old new → IsWritten (plain_shelf old faults limit honest) name bytes (Err fault) (user_files new)
-failed name bytes old new faults limit honest Device user short put = λ other far. kept old new other (λ seen. put.others other seen far)
+failed name bytes old new faults limit honest Device user short put = λ other far. kept old new other (λ seen. put.files.others other seen far)
 failed name bytes old new faults limit honest TooLong user short put = absurd (short refl)
 failed name bytes old new faults limit honest Memory user short put = same_map nat_list_cmp_total exact _ _ (λ other. kept old new other (λ seen.
     elim (by_name other name) as (λ b. by_name other name ≡ b → get new other ≡ get old other) [
-      | true ↦ λ is. let same = tied other name is in ap (get new) same ∙ put.memory refl ∙ ap (get old) (sym same)
-      | false ↦ λ no. put.others other seen (λ same. true≢false (sym (ties other name same) ∙ no))
+      | true ↦ λ is. let same = tied_same other name is in ap (get new) same ∙ put.memory refl ∙ ap (get old) (sym same)
+      | false ↦ λ no. put.files.others other seen (λ same. true≢false (sym (ties other name same) ∙ no))
     ] refl))
 
 pub user_writes : (name bytes : List ℕ) (old new : Files) (faults limit : ℕ) (honest : Bool) (result : Result (Unit {0}) StoreFault) → IsTrue (is_user_name name)
@@ -82,7 +77,7 @@ insert-others : (files : Files) (name bytes other : List ℕ) → other ≢ name
 insert-others files name bytes other far =
     get-insert nat_list_cmp_total files name bytes other
     ∙ (elim (by_name other name) as (λ b. by_name other name ≡ b → cond b (Some bytes) (get files other) ≡ get files other) [
-      | true ↦ λ is. absurd (far (tied other name is))
+      | true ↦ λ is. absurd (far (tied_same other name is))
       | false ↦ λ no. refl
     ] refl)
 

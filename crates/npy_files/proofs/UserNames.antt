@@ -1,6 +1,6 @@
 -- What a user sees when a file is written under a hidden name, and then put in place.
-use Rattle.std.proofs.Common.{◌≡◌, ◌≢◌, ℕ, List, Some, IsTrue, inl, sym, ◌∙◌, subst}
-use Rattle.npy_files.proofs.Words.{true≢false, Files, Same, History, Leaves, Replaces, unmoved, weaker, is_user_name, hidden_name, OldOrNew}
+use Rattle.std.proofs.Common.{◌≡◌, ◌≢◌, ℕ, List, Some, Result, IsTrue, IsErrOf, OnOk, inl, sym, ◌∙◌, subst}
+use Rattle.npy_files.proofs.Words.{true≢false, get, Files, Same, SameBut, History, Leaves, Replaces, unmoved, weaker, is_user_name, hidden_name, OldOrNew, StoreFault, Memory}
 
 -- no user's file has a hidden name
 pub apart : (name other : List ℕ) → IsTrue (is_user_name other) → other ≢ hidden_name name
@@ -10,6 +10,20 @@ pub old_or_new : (hidden name bytes : List ℕ) → hidden ≡ hidden_name name 
 old_or_new hidden name bytes is x y replaced = record {
   others = λ other user far. replaced.others other (λ same. apart name other user (same ∙ is)) far;
   whole = λ user. replaced.whole;
+}
+
+-- What a write leaves on the disk: after `Ok` this name has these bytes, and if memory ran out it has what it had.
+pub record IsPut (name bytes : List ℕ) (result : Result (Unit {0}) StoreFault) (old new : Files) : Type 0 where
+  pub files : OldOrNew name bytes old new
+  pub done : OnOk result (get new name ≡ Some bytes)
+  pub memory : IsErrOf result Memory → get new name ≡ get old name
+
+pub is_put : (hidden name bytes : List ℕ) (result : Result (Unit {0}) StoreFault) (old new : Files) → hidden ≡ hidden_name name → IsTrue (is_user_name name)
+    → Replaces hidden name (Some bytes) old new → OnOk result (get new name ≡ Some bytes) → (IsErrOf result Memory → SameBut hidden old new) → IsPut name bytes result old new
+is_put hidden name bytes result old new is user replaced done memory = record {
+  files = old_or_new hidden name bytes is old new replaced;
+  done = done;
+  memory = λ failed. memory failed name (λ same. apart name name user (same ∙ is));
 }
 
 pub put_leaves : (hidden name bytes : List ℕ) (a b : History) → hidden ≡ hidden_name name → Leaves (Replaces hidden name (Some bytes)) a b → Leaves (OldOrNew name bytes) a b

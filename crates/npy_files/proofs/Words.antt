@@ -1,8 +1,8 @@
 -- Names from std, from the crates below and from `specs/`, which the proofs use.
-pub use Rattle.npy_files.specs.Folders.{IsPut, OldOrNew, folder_shelf, user_files}
+pub use Rattle.npy_files.specs.Folders.{OldOrNew, folder_shelf, user_files}
 pub use Rattle.npy_files.specs.Names.{hidden_name, is_user_name}
 pub use Rattle.npy_files.specs.Stores.{FaultHasCause, IsFirstAfter, IsKept, IsNextName, IsRead, IsWritten, StoreState, comes_before}
-pub use Rattle.npy_files.specs.Words.{Appends, FileParts, Files, HasCause, History, Leaves, Replaces, Same, SameBut, always_ok, both_but, both_same, but_replaces, but_same, empty, from_entries, get, insert, is_lt, last_count, nat_cmp, only_but, slice_cmp, then_but, then_same, unmoved, weaker}
+pub use Rattle.npy_files.specs.Words.{Appends, ChangesOnly, FileParts, Files, HasCause, History, IsUnchanged, Leaves, Replaces, Same, SameBut, always_ok, changes_again, empty, from_entries, get, insert, is_lt, last_count, nat_cmp, only_but, only_same, replaces_again, slice_cmp, stays, stays_again, then_stays, unmoved, weaker}
 pub use Rattle.npy_files.specs.declared.mem_store.StoredFile.{StoredFile}
 pub use Rattle.npy_files.specs.declared.store.StoreFault.{StoreFault}
 pub use Rattle.npy_files.specs.declared.store.StoreFault.TheVariants.{Device, Memory, TooLong}

@@ -1,5 +1,5 @@
 -- A folder on a disk, as a store of files.
-use Rattle.std.specs.Prelude.{◌≡◌, ◌≢◌, ◌⊎◌, ℕ, Bool, List, Some, Result, IsTrue, OnOk, IsErrOf, cond}
+use Rattle.std.specs.Prelude.{◌≡◌, ◌≢◌, ◌⊎◌, ℕ, Bool, List, Some, IsTrue, cond}
 use Rattle.npy_files.specs.Words.{empty, get, retain_keys, Files, DiskFault}
 use Rattle.disk.specs.declared.disk.DiskFault.TheVariants as disk_fault
 use Rattle.npy_files.specs.declared.store.StoreFault.{StoreFault}
@@ -24,11 +24,3 @@ pub record OldOrNew (name bytes : List ℕ) (old new : Files) : Type 0 where
 abbrev pub fault_of : DiskFault → StoreFault
 fault_of disk_fault.Failed = store_fault.Device
 fault_of disk_fault.Memory = store_fault.Memory
-
--- What a write leaves on the disk: no other name of a user changes, and this name has what it had or these bytes,
--- whole. After `Ok` it has these bytes, and if memory ran out it has what it had.
-pub record IsPut (name bytes : List ℕ) (result : Result (Unit {0}) StoreFault) (old new : Files) : Type 0 where
-  pub others : (other : List ℕ) → IsTrue (is_user_name other) → other ≢ name → get new other ≡ get old other
-  pub whole : (get new name ≡ get old name) ⊎ (get new name ≡ Some bytes)
-  pub done : OnOk result (get new name ≡ Some bytes)
-  pub memory : IsErrOf result store_fault.Memory → get new name ≡ get old name

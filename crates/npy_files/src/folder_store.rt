@@ -1,11 +1,11 @@
 //! A store that is a folder on a disk.
 ghost use Rattle.disk.specs.Calls as calls;
 ghost use Rattle.npy_files.specs.Names as names;
-ghost use Rattle.std.specs.Prelude.{IfOk, IsErrOf, IsTrue, OnOk, Some, false, length, true, ◌++◌, ◌^◌, ◌≡◌, ◌≤◌};
-ghost use Rattle.npy_files.specs.Clauses.{IsPut, OldOrNew, folder_shelf, FaultHasCause, IsKept, IsSameStore, ReadsFile, WritesFile, Leaves, Same, Device, TooLong, empty, get};
+ghost use Rattle.std.specs.Prelude.{IfOk, IsTrue, OnOk, Some, false, ◌++◌, ◌^◌, ◌≡◌, ◌≤◌};
+ghost use Rattle.npy_files.specs.Clauses.{OldOrNew, folder_shelf, FaultHasCause, IsKept, IsSameStore, ReadsFile, WritesFile, IsUnchanged, Leaves, Device, empty};
 
 use crate::put::put;
-use crate::read::{Cutter, HeaderCutter, read_file};
+use crate::read::read_file;
 use crate::store::{NpyStore, StoreFault, hidden_name, is_longer, is_user_name};
 use disk::{Disk, HostDisk};
 use npy_format::FileParts;
@@ -19,48 +19,20 @@ use std::rt::Files;
 /// A file is written under a hidden name, synced to the disk, and only then renamed, so that a
 /// fault or a crash leaves the file that was there, or the new one.
 #[derive(Drop)]
-pub struct FolderStore<D: Disk, C: Cutter> {
+pub struct FolderStore<D: Disk> {
     disk: D,
-    cutter: C,
     limit: usize,
     faults: u64,
 }
 
-/// Writes a file of two parts under a name that a user's file may have.
-fn write_file<D: Disk>(
-    disk: &mut D,
-    alloc: Global,
-    name: &[u8],
-    front: &[u8],
-    items: &[u8],
-) -> Result<(), StoreFault>
-    requires { IsTrue (names.is_user_name name.now) }
-    ensures written { IsTrue D.honest →
-        IsPut name.now (front.now ++ items.now) result (D.files disk.old) (D.files disk.new) }
-    ensures lasting { IsTrue D.honest →
-        OnOk result (calls.AlwaysHas (D.history disk.new) name.now
-        (Some (front.now ++ items.now))) }
-    ensures crash { IsTrue D.honest →
-        Leaves (OldOrNew name.now (front.now ++ items.now))
-        (D.history disk.old) (D.history disk.new) }
-    ensures cause { calls.HasCause Device (D.failures disk.old) (D.failures disk.new) result }
-    ensures long { ¬ IsErrOf result TooLong }
-{
-    let hidden = hidden_name(alloc, name)?;
-    put(disk, hidden.as_slice(), name, front, items)?;
-    Ok(())
-}
-
-impl<D: Disk, C: Cutter> FolderStore<D, C> {
-    /// A store on this disk, whose files have at most `limit` bytes and are cut by `cutter` when
-    /// they are read.
-    pub fn new(disk: D, cutter: C, limit: usize) -> FolderStore<D, C>
-        ensures { ⟦<FolderStore<D, C> as NpyStore>⟧.shelf result
-            ≡ folder_shelf (D.files disk) 0 limit D.honest }
+impl<D: Disk> FolderStore<D> {
+    /// A store on this disk, whose files have at most `limit` bytes.
+    pub fn new(disk: D, limit: usize) -> FolderStore<D>
+        ensures { ⟦<FolderStore<D> as NpyStore>⟧.shelf result
+            ≡ folder_shelf (D.state disk).files 0 limit D.honest }
     {
         FolderStore {
             disk,
-            cutter,
             limit,
             faults: 0,
         }
@@ -92,8 +64,8 @@ impl<D: Disk, C: Cutter> FolderStore<D, C> {
     }
 }
 
-impl<D: Disk, C: Cutter> NpyStore for FolderStore<D, C> {
-    ghost shelf = { λ s. folder_shelf (D.files s.disk) s.faults s.limit D.honest };
+impl<D: Disk> NpyStore for FolderStore<D> {
+    ghost shelf = { λ s. folder_shelf (D.state s.disk).files s.faults s.limit D.honest };
 
     fn limit(&self) -> usize {
         self.limit
@@ -102,23 +74,23 @@ impl<D: Disk, C: Cutter> NpyStore for FolderStore<D, C> {
     /// A fault of the device is one of the disk, and a crash leaves only what it might have left
     /// before.
     fn read_parts(&mut self, alloc: Global, name: &[u8]) -> Result<Option<FileParts>, StoreFault>
-        ensures same { let shelf = ⟦<FolderStore<D, C> as NpyStore>⟧.shelf in
+        ensures same { let shelf = ⟦<FolderStore<D> as NpyStore>⟧.shelf in
             IsSameStore (shelf self.old) (shelf self.new) }
-        ensures files { let shelf = ⟦<FolderStore<D, C> as NpyStore>⟧.shelf in
+        ensures files { let shelf = ⟦<FolderStore<D> as NpyStore>⟧.shelf in
             (shelf self.new).files ≡ (shelf self.old).files }
-        ensures cause { let shelf = ⟦<FolderStore<D, C> as NpyStore>⟧.shelf in
+        ensures cause { let shelf = ⟦<FolderStore<D> as NpyStore>⟧.shelf in
             FaultHasCause (shelf self.old) (shelf self.new) result }
         ensures found { ReadsFile (λ parts. parts.front.items ++ parts.block)
-            (⟦<FolderStore<D, C> as NpyStore>⟧.shelf self.old) name.now result }
+            (⟦<FolderStore<D> as NpyStore>⟧.shelf self.old) name.now result }
         ensures crash { IsTrue D.honest →
-            Leaves Same (D.history self.old.disk) (D.history self.new.disk) }
+            IsUnchanged (D.state self.old.disk) (D.state self.new.disk) }
         ensures disk { IsTrue D.honest →
             calls.HasCause Device (D.failures self.old.disk) (D.failures self.new.disk) result }
     {
         if !is_user_name(name) {
             return Ok(None);
         }
-        let found = read_file(&mut self.disk, alloc, &self.cutter, name, self.limit);
+        let found = read_file(&mut self.disk, alloc, name, self.limit);
         self.counted(found)
     }
 
@@ -132,19 +104,19 @@ impl<D: Disk, C: Cutter> NpyStore for FolderStore<D, C> {
         front: &[u8],
         items: &[u8],
     ) -> Result<(), StoreFault>
-        ensures same { let shelf = ⟦<FolderStore<D, C> as NpyStore>⟧.shelf in
+        ensures same { let shelf = ⟦<FolderStore<D> as NpyStore>⟧.shelf in
             IsSameStore (shelf self.old) (shelf self.new) }
-        ensures cause { let shelf = ⟦<FolderStore<D, C> as NpyStore>⟧.shelf in
+        ensures cause { let shelf = ⟦<FolderStore<D> as NpyStore>⟧.shelf in
             FaultHasCause (shelf self.old) (shelf self.new) result }
-        ensures kept { let shelf = ⟦<FolderStore<D, C> as NpyStore>⟧.shelf in
+        ensures kept { let shelf = ⟦<FolderStore<D> as NpyStore>⟧.shelf in
             IsKept name.now result (shelf self.old).files (shelf self.new).files }
-        ensures written { let shelf = ⟦<FolderStore<D, C> as NpyStore>⟧.shelf in
+        ensures written { let shelf = ⟦<FolderStore<D> as NpyStore>⟧.shelf in
             WritesFile (shelf self.old) name.now (front.now ++ items.now) result (shelf self.new) }
         ensures crash { IsTrue D.honest →
             Leaves (OldOrNew name.now (front.now ++ items.now))
-            (D.history self.old.disk) (D.history self.new.disk) }
+            (D.state self.old.disk).history (D.state self.new.disk).history }
         ensures lasting { IsTrue D.honest →
-            OnOk result (calls.AlwaysHas (D.history self.new.disk) name.now
+            OnOk result (calls.AlwaysHas (D.state self.new.disk).history name.now
             (Some (front.now ++ items.now))) }
         ensures disk { IsTrue (names.is_user_name name.now) →
             calls.HasCause Device (D.failures self.old.disk) (D.failures self.new.disk) result }
@@ -152,11 +124,11 @@ impl<D: Disk, C: Cutter> NpyStore for FolderStore<D, C> {
         if is_longer(front.len(), items.len(), self.limit) {
             return Err(StoreFault::TooLong);
         }
-        let is_user = is_user_name(name);
-        if !is_user {
+        if !is_user_name(name) {
             return self.counted(Err(StoreFault::Device));
         }
-        let written = write_file(&mut self.disk, alloc, name, front, items);
+        let hidden = hidden_name(alloc, name)?;
+        let written = put(&mut self.disk, hidden.as_slice(), name, front, items);
         self.counted(written)
     }
 }
@@ -166,15 +138,15 @@ pub const MAX_FILE: usize = 1 << 29;
 
 /// A store that is a folder of the operating system, reached through a runtime. No contract says
 /// what such a folder contains, so it is not honest, and its contracts say nothing about its files.
-pub type DirStore<'a, R> = FolderStore<HostDisk<'a, R>, HeaderCutter>;
+pub type DirStore<'a, R> = FolderStore<HostDisk<'a, R>>;
 
-impl<'a, R: Files<File = File>> FolderStore<HostDisk<'a, R>, HeaderCutter> {
+impl<'a, R: Files<File = File>> FolderStore<HostDisk<'a, R>> {
     /// The store that is the folder of this name. The folder isn't looked at.
     pub fn try_new(rt: &'a R, alloc: Global, dir: &str) -> Result<DirStore<'a, R>, AllocError>
-        ensures { let shelf = ⟦<FolderStore<HostDisk<'a, R>, HeaderCutter> as NpyStore>⟧.shelf in
+        ensures { let shelf = ⟦<FolderStore<HostDisk<'a, R>> as NpyStore>⟧.shelf in
             IfOk result (λ store. shelf store ≡ folder_shelf empty 0 (2 ^ 29) false) }
     {
         let disk = HostDisk::try_new(rt, alloc, dir)?;
-        Ok(FolderStore::new(disk, HeaderCutter, MAX_FILE))
+        Ok(FolderStore::new(disk, MAX_FILE))
     }
 }

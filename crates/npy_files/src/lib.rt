@@ -16,5 +16,4 @@ pub use npy_format::{
     FileParts, Header, MAX_HEADER, SavedParts, header_read, npy_load, npy_parts, npy_read,
     npy_write,
 };
-pub use read::{Cutter, HeaderCutter};
 pub use store::{NpyStore, StoreFault};

@@ -1,7 +1,8 @@
 //! Replaces a file: writes it under a hidden name, then renames it.
-ghost use Rattle.std.specs.Prelude.{◌≡◌, ◌≢◌, ◌++◌, [], IsTrue, IfOk, OnOk, IsErrOf};
-ghost use Rattle.npy_files.specs.Clauses.{get, Failed, Memory, SameBut, Leaves, HasCause, Replaces, Appends, AlwaysHas};
+ghost use Rattle.std.specs.Prelude.{◌≡◌, ◌≢◌, ◌++◌, IsTrue, OnOk, IsErrOf};
+ghost use Rattle.npy_files.specs.Clauses.{get, Failed, Device, Memory, TooLong, SameBut, Leaves, HasCause, ChangesOnly, Replaces, Appends, AlwaysHas};
 
+use crate::store::StoreFault;
 use disk::{Disk, DiskFault};
 
 /// Appends two parts to a file, and syncs it to the disk.
@@ -11,16 +12,14 @@ fn fill<D: Disk>(
     front: &[u8],
     items: &[u8],
 ) -> Result<(), DiskFault>
-    requires { IsTrue D.honest → D.IsCurrent disk.old file.old }
+    requires { IsTrue D.honest → (D.state disk.old).IsCurrent file.old }
     ensures filled { IsTrue D.honest →
         OnOk result (Appends (front.now ++ items.now)
-        (get (D.files disk.old) (D.name_of file.old))
-        (get (D.files disk.new) (D.name_of file.old))) }
-    ensures synced { IsTrue D.honest → OnOk result (D.Synced disk.new (D.name_of file.old)) }
+        (get (D.state disk.old).files (D.name_of file.old))
+        (get (D.state disk.new).files (D.name_of file.old))) }
+    ensures synced { IsTrue D.honest → OnOk result ((D.state disk.new).Synced (D.name_of file.old)) }
     ensures others { IsTrue D.honest →
-        SameBut (D.name_of file.old) (D.files disk.old) (D.files disk.new) }
-    ensures crash { IsTrue D.honest →
-        Leaves (SameBut (D.name_of file.old)) (D.history disk.old) (D.history disk.new) }
+        ChangesOnly D.name_of (D.name_of file.old) (D.state disk.old) (D.state disk.new) }
     ensures cause { HasCause Failed (D.failures disk.old) (D.failures disk.new) result }
 {
     disk.append(file, front)?;
@@ -39,11 +38,10 @@ fn stage<D: Disk>(
     items: &[u8],
 ) -> Result<D::File, DiskFault>
     ensures staged { IsTrue D.honest →
-        OnOk result (get (D.files disk.new) name.now ≡ Some (front.now ++ items.now)) }
-    ensures synced { IsTrue D.honest → OnOk result (D.Synced disk.new name.now) }
-    ensures others { IsTrue D.honest → SameBut name.now (D.files disk.old) (D.files disk.new) }
-    ensures crash { IsTrue D.honest →
-        Leaves (SameBut name.now) (D.history disk.old) (D.history disk.new) }
+        OnOk result (get (D.state disk.new).files name.now ≡ Some (front.now ++ items.now)) }
+    ensures synced { IsTrue D.honest → OnOk result ((D.state disk.new).Synced name.now) }
+    ensures others { IsTrue D.honest →
+        ChangesOnly D.name_of name.now (D.state disk.old) (D.state disk.new) }
     ensures cause { HasCause Failed (D.failures disk.old) (D.failures disk.new) result }
 {
     let mut file = disk.create(name, place)?;
@@ -63,26 +61,28 @@ pub(crate) fn put<D: Disk>(
     name: &[u8],
     front: &[u8],
     items: &[u8],
-) -> Result<(), DiskFault>
+) -> Result<(), StoreFault>
     requires { name.now ≢ hidden.now }
     ensures replaced { IsTrue D.honest →
-        OnOk result (get (D.files disk.new) name.now ≡ Some (front.now ++ items.now)) }
-    ensures lasting { IsTrue D.honest →
-        OnOk result (AlwaysHas (D.history disk.new) name.now (Some (front.now ++ items.now))) }
+        OnOk result (get (D.state disk.new).files name.now ≡ Some (front.now ++ items.now)) }
+    ensures lasting { IsTrue D.honest → OnOk result
+        (AlwaysHas (D.state disk.new).history name.now (Some (front.now ++ items.now))) }
     ensures others { IsTrue D.honest →
         Replaces hidden.now name.now (Some (front.now ++ items.now))
-        (D.files disk.old) (D.files disk.new) }
+        (D.state disk.old).files (D.state disk.new).files }
     ensures crash { IsTrue D.honest →
         Leaves (Replaces hidden.now name.now (Some (front.now ++ items.now)))
-        (D.history disk.old) (D.history disk.new) }
-    ensures memory { IsTrue D.honest →
-        IsErrOf result Memory → SameBut hidden.now (D.files disk.old) (D.files disk.new) }
-    ensures cause { HasCause Failed (D.failures disk.old) (D.failures disk.new) result }
+        (D.state disk.old).history (D.state disk.new).history }
+    ensures memory { IsTrue D.honest → IsErrOf result Memory →
+        SameBut hidden.now (D.state disk.old).files (D.state disk.new).files }
+    ensures cause { HasCause Device (D.failures disk.old) (D.failures disk.new) result }
+    ensures long { ¬ IsErrOf result TooLong }
 {
     let _file = stage(disk, hidden, name, front, items)?;
     if let Err(fault) = disk.rename(hidden, name) {
         let _ = disk.remove(hidden);
-        return Err(fault);
+        return Err(StoreFault::from(fault));
     }
-    disk.sync_names()
+    disk.sync_names()?;
+    Ok(())
 }

@@ -1,6 +1,6 @@
 //! Reads files in two parts.
 ghost use Rattle.std.specs.Prelude.{IfOk, IsErrOf, IsTrue, OnOk, length, take, ◌++◌, ◌+◌, ◌≡◌, ◌≤◌};
-ghost use Rattle.npy_files.specs.Clauses.{IsRead, HasCause, Leaves, Same, Device, TooLong, get};
+ghost use Rattle.npy_files.specs.Clauses.{IsRead, HasCause, IsUnchanged, Device, TooLong, get};
 
 use crate::store::StoreFault;
 use disk::Disk;
@@ -19,15 +19,14 @@ fn fill<D: Disk>(
     bytes: &mut [u8],
     start: usize,
 ) -> Result<(), StoreFault>
-    requires current { IsTrue D.honest → D.IsCurrent disk.old file.old }
+    requires current { IsTrue D.honest → (D.state disk.old).IsCurrent file.old }
     requires start { start ≤ length bytes.old }
     requires told { IsTrue D.honest → length bytes.old ≤ start + length (D.rest_of file.old) }
     ensures read { IsTrue D.honest →
         OnOk result (take start bytes.old ++ D.rest_of file.old ≡ bytes.new ++ D.rest_of file.new) }
     ensures long { ¬ IsErrOf result TooLong }
-    ensures files { IsTrue D.honest → D.files disk.new ≡ D.files disk.old }
-    ensures crash { IsTrue D.honest → Leaves Same (D.history disk.old) (D.history disk.new) }
-    ensures current { IsTrue D.honest → D.IsCurrent disk.new file.new }
+    ensures same { IsTrue D.honest → IsUnchanged (D.state disk.old) (D.state disk.new) }
+    ensures current { IsTrue D.honest → (D.state disk.new).IsCurrent file.new }
     ensures cause { IsTrue D.honest →
         HasCause Device (D.failures disk.old) (D.failures disk.new) result }
 {
@@ -52,14 +51,13 @@ fn read_block<D: Disk>(
     begin: &[u8],
     len: usize,
 ) -> Result<RawBlock, StoreFault>
-    requires current { IsTrue D.honest → D.IsCurrent disk.old file.old }
+    requires current { IsTrue D.honest → (D.state disk.old).IsCurrent file.old }
     requires len { length begin.now ≤ len }
     requires told { IsTrue D.honest → length begin.now + length (D.rest_of file.old) ≡ len }
     ensures read { IsTrue D.honest →
         IfOk result (λ block. block ≡ begin.now ++ D.rest_of file.old) }
     ensures long { ¬ IsErrOf result TooLong }
-    ensures files { IsTrue D.honest → D.files disk.new ≡ D.files disk.old }
-    ensures crash { IsTrue D.honest → Leaves Same (D.history disk.old) (D.history disk.new) }
+    ensures same { IsTrue D.honest → IsUnchanged (D.state disk.old) (D.state disk.new) }
     ensures cause { IsTrue D.honest →
         HasCause Device (D.failures disk.old) (D.failures disk.new) result }
 {
@@ -76,19 +74,18 @@ fn read_block<D: Disk>(
     Ok(block.finish())
 }
 
-/// The file with this name, cut in two, if there is one.
-pub(crate) fn read_file<D: Disk, C: Cutter>(
+/// The file with this name, if there is one, cut in two: an NPY file after its header, so that the
+/// second part is the items, and any other before its first byte.
+pub(crate) fn read_file<D: Disk>(
     disk: &mut D,
     alloc: Global,
-    cutter: &C,
     name: &[u8],
     limit: usize,
 ) -> Result<Option<FileParts>, StoreFault>
     ensures found { IsTrue D.honest →
         IsRead (λ parts. parts.front.items ++ parts.block) limit
-        (get (D.files disk.old) name.now) result }
-    ensures files { IsTrue D.honest → D.files disk.new ≡ D.files disk.old }
-    ensures crash { IsTrue D.honest → Leaves Same (D.history disk.old) (D.history disk.new) }
+        (get (D.state disk.old).files name.now) result }
+    ensures same { IsTrue D.honest → IsUnchanged (D.state disk.old) (D.state disk.new) }
     ensures cause { IsTrue D.honest →
         HasCause Device (D.failures disk.old) (D.failures disk.new) result }
 {
@@ -103,27 +100,8 @@ pub(crate) fn read_file<D: Disk, C: Cutter>(
     let mut front = Vec::new(alloc);
     front.resize(len.min(PIECE), 0)?;
     fill(disk, &mut file, front.as_mut_slice(), 0)?;
-    let cut = cutter.front_len(front.as_slice()).min(front.len());
+    let cut = front_len(front.as_slice());
     let block = read_block(disk, alloc, &mut file, &front[cut..], len - cut)?;
     front.truncate(cut);
     Ok(Some(FileParts { front, block }))
-}
-
-/// Decides where a file is cut in two when it is read. Wherever that is, the two parts together
-/// are the same file.
-pub trait Cutter: Drop {
-    /// How many bytes go to the front part of a file that begins with these, of which there are at
-    /// most 2^16 (fewer only if the file has no more). A greater number means all of them.
-    fn front_len(&self, first: &[u8]) -> usize;
-}
-
-/// Cuts NPY files after their headers, so that the second part is the items. Other files are cut
-/// before their first byte.
-#[derive(Clone, Copy)]
-pub struct HeaderCutter;
-
-impl Cutter for HeaderCutter {
-    fn front_len(&self, first: &[u8]) -> usize {
-        front_len(first)
-    }
 }

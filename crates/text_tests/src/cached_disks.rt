@@ -1,11 +1,11 @@
 //! Folders on a disk with a cache: a crash at each call, each choice of what it leaves of two short files.
 use disk::{CachedMemDisk, Disk};
-use npy_files::{FolderStore, HeaderCutter, NpyStore};
+use npy_files::{FolderStore, NpyStore};
 use std::alloc::{AllocError, Global};
 use std::test::Fail;
 
 /// A folder on a disk with a cache.
-type CachedFolder = FolderStore<CachedMemDisk, HeaderCutter>;
+type CachedFolder = FolderStore<CachedMemDisk>;
 
 /// How many calls of the disk two saves make.
 const CALLS: usize = 12;
@@ -28,7 +28,7 @@ fn choice(alloc: Global, number: usize) -> Result<Option<Vec<u8>>, AllocError> {
 fn two_saves(alloc: Global, call: usize) -> (CachedMemDisk, usize) {
     let mut disk = CachedMemDisk::new(alloc);
     disk.fail_at(call, true);
-    let mut store = FolderStore::new(disk, HeaderCutter, 100);
+    let mut store = FolderStore::new(disk, 100);
     let one = store.write(alloc, b"a", b"one").is_ok();
     let two = store.write(alloc, b"a", b"two").is_ok();
     (store.into_disk(), usize::from(one) + usize::from(two))
@@ -47,7 +47,7 @@ fn folder_left(
         return Ok(None);
     }
     disk.restart()?;
-    Ok(Some(FolderStore::new(disk, HeaderCutter, 100)))
+    Ok(Some(FolderStore::new(disk, 100)))
 }
 
 /// How many of the two saves the file stands for, or 3 where it is none of theirs.

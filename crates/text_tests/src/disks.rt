@@ -1,17 +1,17 @@
 //! Folders on a disk in memory, of which one call fails, or all from one on.
 use disk::{CachedMemDisk, Disk};
-use npy_files::{FolderStore, HeaderCutter, NpyStore};
+use npy_files::{FolderStore, NpyStore};
 use std::alloc::{AllocError, Global};
 use std::test::Fail;
 
 /// A folder on a disk in memory.
-type MemFolder = FolderStore<CachedMemDisk, HeaderCutter>;
+type MemFolder = FolderStore<CachedMemDisk>;
 
 /// How many calls of the disk three saves and two loads make: six for a save and four for a load.
 const CALLS: usize = 26;
 
 fn folder_on(disk: CachedMemDisk) -> MemFolder {
-    FolderStore::new(disk, HeaderCutter, 100)
+    FolderStore::new(disk, 100)
 }
 
 /// Three saves and two loads over a disk of which the call with this number fails, or all from that one

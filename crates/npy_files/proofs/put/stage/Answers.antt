@@ -1,23 +1,18 @@
-use Rattle.std.proofs.Common.{◌++◌, [], subst}
-use Rattle.npy_files.proofs.Words.{get, SameBut, Leaves, Appends, both_but}
+use Rattle.std.proofs.Common.{◌++◌, [], refl, subst}
+use Rattle.npy_files.proofs.Words.{get, Appends, changes_again}
 use Rattle.npy_files.proofs.put.stage.Goals as goal
 
 pub returns-in-Ok-clause-staged : goal.returns-in-Ok-clause-staged
 returns-in-Ok-clause-staged g c = λ honest.
     let bytes = c.args.front.now ++ c.args.items.now in
-    let named = c.in_ok-file.ensures.name honest in
-    let old = g.D.Disk.files c.create.new.self in
-    let new = g.D.Disk.files c.fill.new.disk in
-    subst (λ name. Appends bytes (get old name) (get new name)) named (c.in-Ok.ensures.filled honest) [] (c.in_ok-file.ensures.created honest)
+    let old = (g.D.Disk.state c.create.new.self).files in
+    let new = (g.D.Disk.state c.fill.new.disk).files in
+    subst (λ name. Appends bytes (get old name) (get new name)) (c.in_ok-file.ensures.opened honest).called (c.in-Ok.ensures.filled honest) [] (c.in_ok-file.ensures.created honest)
 
-pub returns-in-Ok-clause-crash : goal.returns-in-Ok-clause-crash
-returns-in-Ok-clause-crash g c = λ honest.
-    let named = c.in_ok-file.ensures.name honest in
-    let filled = subst (λ name. Leaves (SameBut name) (g.D.Disk.history c.create.new.self) (g.D.Disk.history c.fill.new.disk)) named (c.fill.ensures.crash honest) in
-    both_but c.args.name.now _ _ _ (c.create.ensures.crash honest) filled
+pub returns-in-Ok-clause-others : goal.returns-in-Ok-clause-others
+returns-in-Ok-clause-others g c = λ honest.
+    changes_again (c.create.ensures.others honest) (c.in_ok-file.ensures.opened honest).called (c.fill.ensures.others honest)
 
-pub returns-in-Err-clause-crash : goal.returns-in-Err-clause-crash
-returns-in-Err-clause-crash g c = λ honest.
-    let named = c.in_ok-file.ensures.name honest in
-    let filled = subst (λ name. Leaves (SameBut name) (g.D.Disk.history c.create.new.self) (g.D.Disk.history c.fill.new.disk)) named (c.fill.ensures.crash honest) in
-    both_but c.args.name.now _ _ _ (both_but c.args.name.now _ _ _ (c.create.ensures.crash honest) filled) (c.remove.ensures.crash honest)
+pub returns-in-Err-clause-others : goal.returns-in-Err-clause-others
+returns-in-Err-clause-others g c = λ honest.
+    changes_again (changes_again (c.create.ensures.others honest) (c.in_ok-file.ensures.opened honest).called (c.fill.ensures.others honest)) refl (c.remove.ensures.others honest)

@@ -1,13 +1,13 @@
-use Rattle.std.proofs.Common.{◌≡◌, ◌≤◌, ◌-◌, length, refl, ◌∙◌, arith}
-use Rattle.npy_files.proofs.Words.{common_steps, both_same, unmoved}
+use Rattle.std.proofs.Common.{◌≡◌, ◌≤◌, ◌-◌, length, refl, arith}
+use Rattle.npy_files.proofs.Words.{common_steps, stays, stays_again}
 use Rattle.npy_files.proofs.Pieces.{put_length, rest_length, read_on}
 use Rattle.npy_files.proofs.read.fill.Goals as goal
 
 pub loop-at-init : goal.loop-at-init
-loop-at-init g c = record { read = λ honest. refl; told = c.requires.told; files = λ honest. refl; crash = λ honest. unmoved _; current = c.requires.current; within = c.requires.start; kept = omega arith }
+loop-at-init g c = record { read = λ honest. refl; told = c.requires.told; same = λ honest. stays _; current = c.requires.current; within = c.requires.start; kept = omega arith }
 
-pub returns-in_err-count-clause-crash : goal.returns-in_err-count-clause-crash
-returns-in_err-count-clause-crash g c = λ honest. both_same _ _ _ (c.loop-at.invariant.crash honest) (c.read.ensures.crash honest)
+pub returns-in_err-count-clause-same : goal.returns-in_err-count-clause-same
+returns-in_err-count-clause-same g c = λ honest. stays_again (c.loop-at.invariant.same honest) (c.read.ensures.same honest)
 
 pub loop-at-preserved : goal.loop-at-preserved
 loop-at-preserved g c =
@@ -25,9 +25,8 @@ loop-at-preserved g c =
           let left = rest_length bytes piece (g.D.Disk.rest_of c.loop-at.file) (g.D.Disk.rest_of c.read.new.file) at count within long few (c.in_ok-count.ensures.read honest) in
           let before = c.loop-at.invariant.told honest in
           omega (arith, size, left, before);
-      files = λ honest. c.read.ensures.files honest ∙ c.loop-at.invariant.files honest;
-      crash = λ honest. both_same _ _ _ (c.loop-at.invariant.crash honest) (c.read.ensures.crash honest);
-      current = λ honest. c.read.ensures.own honest;
+      same = λ honest. stays_again (c.loop-at.invariant.same honest) (c.read.ensures.same honest);
+      current = λ honest. (c.read.ensures.opened honest).current;
       within = grind (arith, common_steps);
       kept = omega (arith, c.loop-at.invariant.kept, c.read.ensures.cause.kept);
     }

@@ -1,9 +1,9 @@
 use Rattle.std.proofs.Common.{◌≡◌, ◌+◌, ◌++◌, ℕ, List, length, take, IsTrue, refl, ap, ◌∙◌, sym, arith, length-append}
-use Rattle.npy_files.proofs.Words.{both_same, length-replicate, take_at, unmoved}
+use Rattle.npy_files.proofs.Words.{length-replicate, stays, stays_again, take_at}
 use Rattle.npy_files.proofs.read.read_block.Goals as goal
 
-pub returns-in_err-block-clause-crash : goal.returns-in_err-block-clause-crash
-returns-in_err-block-clause-crash g c = λ honest. unmoved _
+pub returns-in_err-block-clause-same : goal.returns-in_err-block-clause-same
+returns-in_err-block-clause-same g c = λ honest. stays _
 
 pub loop-block-init : goal.loop-block-init
 loop-block-init g c =
@@ -11,8 +11,7 @@ loop-block-init g c =
     record {
       read = λ honest. ap (λ (b : List ℕ). b ++ g.D.Disk.rest_of c.args.file.now) (sym pushed);
       told = λ honest. let told = c.requires.told honest in omega (arith, ap length pushed, told);
-      files = λ honest. refl;
-      crash = λ honest. unmoved _;
+      same = λ honest. stays _;
       current = c.requires.current;
       room = omega (arith, ap length pushed, c.push_bytes.ensures.left, ap (λ (b : List ℕ × ℕ). b.1) c.in_ok-block.ensures);
       kept = λ honest. omega arith;
@@ -35,8 +34,7 @@ loop-block-preserved g c =
       told = λ honest.
           let before = c.loop-block.invariant.told honest in
           omega (arith, ap length (step honest), ap length put, before, length-append block rest, length-append after next);
-      files = λ honest. c.fill.ensures.files honest ∙ c.loop-block.invariant.files honest;
-      crash = λ honest. both_same _ _ _ (c.loop-block.invariant.crash honest) (c.fill.ensures.crash honest);
+      same = λ honest. stays_again (c.loop-block.invariant.same honest) (c.fill.ensures.same honest);
       current = λ honest. c.fill.ensures.current honest;
       room = omega (arith, ap length put, size, grown, c.push_zeros.ensures.left, c.loop-block.invariant.room);
       kept = λ honest.
@@ -45,11 +43,11 @@ loop-block-preserved g c =
           omega (arith, before, more);
     }
 
-pub returns-in_err-fill-clause-crash : goal.returns-in_err-fill-clause-crash
-returns-in_err-fill-clause-crash g c = λ honest. both_same _ _ _ (c.loop-block.invariant.crash honest) (c.fill.ensures.crash honest)
+pub returns-in_err-fill-clause-same : goal.returns-in_err-fill-clause-same
+returns-in_err-fill-clause-same g c = λ honest. stays_again (c.loop-block.invariant.same honest) (c.fill.ensures.same honest)
 
-pub returns-in_err-read-clause-crash : goal.returns-in_err-read-clause-crash
-returns-in_err-read-clause-crash g c = λ honest. both_same _ _ _ (c.loop-block.invariant.crash honest) (c.read.ensures.crash honest)
+pub returns-in_err-read-clause-same : goal.returns-in_err-read-clause-same
+returns-in_err-read-clause-same g c = λ honest. stays_again (c.loop-block.invariant.same honest) (c.read.ensures.same honest)
 
-pub returns-clause-crash : goal.returns-clause-crash
-returns-clause-crash g c = λ honest. both_same _ _ _ (c.loop-block.invariant.crash honest) (c.read.ensures.crash honest)
+pub returns-clause-same : goal.returns-clause-same
+returns-clause-same g c = λ honest. stays_again (c.loop-block.invariant.same honest) (c.read.ensures.same honest)

@@ -1,22 +1,22 @@
 use Rattle.std.proofs.Common.{◌≡◌, Some, length, take, ap, sym, ◌∙◌, arith}
-use Rattle.npy_files.proofs.Words.{Files, both_same, common_steps, get}
+use Rattle.npy_files.proofs.Words.{Files, common_steps, get, stays_again}
 use Rattle.npy_files.proofs.Pieces.{cut_read}
 use Rattle.npy_files.proofs.read.read_file.Goals as goal
 
-pub returns-in_err-file-clause-crash : goal.returns-in_err-file-clause-crash
-returns-in_err-file-clause-crash g c = λ honest. both_same _ _ _ (c.has_file.ensures.crash honest) (c.open.ensures.crash honest)
+pub returns-in_err-file-clause-same : goal.returns-in_err-file-clause-same
+returns-in_err-file-clause-same g c = λ honest. stays_again (c.has_file.ensures.same honest) (c.open.ensures.same honest)
 
-pub returns-then-told-limit-clause-crash : goal.returns-then-told-limit-clause-crash
-returns-then-told-limit-clause-crash g c = λ honest. both_same _ _ _ (c.has_file.ensures.crash honest) (c.open.ensures.crash honest)
+pub returns-then-told-limit-clause-same : goal.returns-then-told-limit-clause-same
+returns-then-told-limit-clause-same g c = λ honest. stays_again (c.has_file.ensures.same honest) (c.open.ensures.same honest)
 
-pub returns-in_err-resize-clause-crash : goal.returns-in_err-resize-clause-crash
-returns-in_err-resize-clause-crash g c = λ honest. both_same _ _ _ (c.has_file.ensures.crash honest) (c.open.ensures.crash honest)
+pub returns-in_err-resize-clause-same : goal.returns-in_err-resize-clause-same
+returns-in_err-resize-clause-same g c = λ honest. stays_again (c.has_file.ensures.same honest) (c.open.ensures.same honest)
 
-pub returns-in_err-fill-clause-crash : goal.returns-in_err-fill-clause-crash
-returns-in_err-fill-clause-crash g c = λ honest. both_same _ _ _ (both_same _ _ _ (c.has_file.ensures.crash honest) (c.open.ensures.crash honest)) (c.fill.ensures.crash honest)
+pub returns-in_err-fill-clause-same : goal.returns-in_err-fill-clause-same
+returns-in_err-fill-clause-same g c = λ honest. stays_again (stays_again (c.has_file.ensures.same honest) (c.open.ensures.same honest)) (c.fill.ensures.same honest)
 
-pub returns-in_err-block-clause-crash : goal.returns-in_err-block-clause-crash
-returns-in_err-block-clause-crash g c = λ honest. both_same _ _ _ (both_same _ _ _ (both_same _ _ _ (c.has_file.ensures.crash honest) (c.open.ensures.crash honest)) (c.fill.ensures.crash honest)) (c.read_block.ensures.crash honest)
+pub returns-in_err-block-clause-same : goal.returns-in_err-block-clause-same
+returns-in_err-block-clause-same g c = λ honest. stays_again (stays_again (stays_again (c.has_file.ensures.same honest) (c.open.ensures.same honest)) (c.fill.ensures.same honest)) (c.read_block.ensures.same honest)
 
 pub read_block-requires-clause-told : goal.read_block-requires-clause-told
 read_block-requires-clause-told g c = λ honest.
@@ -29,12 +29,12 @@ pub returns-clause-found : goal.returns-clause-found
 returns-clause-found g c = λ honest.
     let front = c.fill.new.bytes in
     let seen : c.deref.result.now ≡ front = grind (arith, common_steps) in
-    let here : c.truncate.new.self.items ≡ take c.min-cut.result front = grind (arith, common_steps) in
+    let here : c.truncate.new.self.items ≡ take c.front_len-cut.result front = grind (arith, common_steps) in
     let whole = cut_read front _ _ _ _ c.in_ok-block.block _ (c.in_ok-fill.ensures.read honest) seen here (c.in_ok-block.ensures.read honest) in
-    let there = ap (λ (files : Files). get files c.args.name.now) (sym (c.has_file.ensures.files honest)) ∙ c.in_ok-file.ensures.found honest ∙ ap Some (sym whole) in
+    let there = ap (λ (files : Files). get files c.args.name.now) (sym (c.has_file.ensures.same honest).files) ∙ c.in_ok-file.ensures.found honest ∙ ap Some (sym whole) in
     let size = ap length whole in
     let told = c.in_ok-file.ensures.told honest in
     (there, grind (arith, common_steps, size, told))
 
-pub returns-clause-crash : goal.returns-clause-crash
-returns-clause-crash g c = λ honest. both_same _ _ _ (both_same _ _ _ (both_same _ _ _ (c.has_file.ensures.crash honest) (c.open.ensures.crash honest)) (c.fill.ensures.crash honest)) (c.read_block.ensures.crash honest)
+pub returns-clause-same : goal.returns-clause-same
+returns-clause-same g c = λ honest. stays_again (stays_again (stays_again (c.has_file.ensures.same honest) (c.open.ensures.same honest)) (c.fill.ensures.same honest)) (c.read_block.ensures.same honest)
