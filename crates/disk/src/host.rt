@@ -1,9 +1,8 @@
 //! A folder of the operating system.
-ghost use Rattle.std.specs.Prelude.{◌≡◌, [], false, IfOk, OnErr};
-ghost use Rattle.disk.specs.Clauses.{empty, Failed, HasCause};
+ghost use Rattle.std.specs.Prelude.{◌≡◌, ◌≤◌, [], false, IfOk, OnErr};
+ghost use Rattle.disk.specs.Clauses.{empty, Failed, HasCause, HasRisen};
 
 use crate::disk::{Disk, DiskFault};
-use crate::failing::failed;
 use crate::host_calls::{
     create_file, is_there, open_file, read_some, remove_file, rename_file, sync_file, sync_folder,
 };
@@ -47,6 +46,16 @@ impl<'a, R: Files<File = File>> HostDisk<'a, R> {
         })
     }
 
+    /// Counts a failure.
+    fn failed(&mut self) -> DiskFault
+        ensures fault { result ≡ Failed }
+        ensures counted { HasRisen self.old.failures self.new.failures }
+        ensures kept { self.old.failures ≤ self.new.failures }
+    {
+        self.failures = self.failures.saturating_add(1);
+        DiskFault::Failed
+    }
+
     /// The result of a call. A failure is counted.
     fn counted<T: Drop>(&mut self, answer: io::Result<T>) -> Result<T, DiskFault>
         ensures cause { HasCause Failed self.old.failures self.new.failures result }
@@ -55,7 +64,7 @@ impl<'a, R: Files<File = File>> HostDisk<'a, R> {
     {
         match answer {
             Ok(value) => Ok(value),
-            Err(_) => Err(failed(&mut self.failures)),
+            Err(_) => Err(self.failed()),
         }
     }
 
@@ -66,10 +75,10 @@ impl<'a, R: Files<File = File>> HostDisk<'a, R> {
         ensures cause { HasCause Failed self.old.failures self.new.failures result }
     {
         let Ok(name) = str::from_utf8(name) else {
-            return Err(failed(&mut self.failures));
+            return Err(self.failed());
         };
         if name.is_empty() || name == "." || name == ".." || name.contains('/') {
-            return Err(failed(&mut self.failures));
+            return Err(self.failed());
         }
         let mut path = PathBuf::with_capacity(self.alloc, self.dir.len() + name.len() + 1)?;
         path.push(self.dir.as_str())?;

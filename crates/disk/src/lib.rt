@@ -1,12 +1,9 @@
 //! A disk as a folder of files sees it: what a read returns now, and what a crash may leave.
 #![tactic(auto)]
 
-mod cached;
 mod disk;
-mod failing;
 mod host;
 mod host_calls;
 
-pub use cached::{CachedMemDisk, MemFile};
 pub use disk::{Disk, DiskFault};
 pub use host::HostDisk;

@@ -2,13 +2,9 @@
 #![tactic(auto)]
 
 #[cfg(test)]
-mod cached_disks;
-#[cfg(test)]
 mod check;
 #[cfg(test)]
 mod descriptors;
-#[cfg(test)]
-mod disks;
 #[cfg(test)]
 mod files;
 #[cfg(test)]

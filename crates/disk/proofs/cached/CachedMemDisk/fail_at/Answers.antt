@@ -1,6 +1,0 @@
-use Rattle.std.proofs.Common.{refl}
-use Rattle.disk.proofs.Events.{still_same}
-use Rattle.disk.proofs.cached.CachedMemDisk.fail_at.Goals as goal
-
-pub returns-clause-same : goal.returns-clause-same
-returns-clause-same c = still_same _ _ refl

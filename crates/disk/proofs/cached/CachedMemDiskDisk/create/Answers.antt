@@ -1,9 +1,0 @@
-use Rattle.std.proofs.Common.{refl}
-use Rattle.disk.proofs.Events.{still_but}
-use Rattle.disk.proofs.cached.CachedMemDiskDisk.create.Goals as goal
-
-pub returns-in_err-count_call-clause-others : goal.returns-in_err-count_call-clause-others
-returns-in_err-count_call-clause-others c = λ honest. still_but c.args.name.now _ _ refl
-
-pub returns-in_err-from_slice-clause-others : goal.returns-in_err-from_slice-clause-others
-returns-in_err-from_slice-clause-others c = λ honest. still_but c.args.name.now _ _ refl

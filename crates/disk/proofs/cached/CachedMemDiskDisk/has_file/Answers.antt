@@ -1,6 +1,0 @@
-use Rattle.std.proofs.Common.{refl}
-use Rattle.disk.proofs.Events.{still_same}
-use Rattle.disk.proofs.cached.CachedMemDiskDisk.has_file.Goals as goal
-
-pub returns-in_err-count_call-clause-same : goal.returns-in_err-count_call-clause-same
-returns-in_err-count_call-clause-same c = λ honest. still_same _ _ refl

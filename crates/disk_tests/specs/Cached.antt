@@ -1,0 +1,55 @@
+-- A disk with a cache: what a read finds, and what a crash may leave.
+use Rattle.std.specs.Prelude.{◌≡◌, ◌⊎◌, ◌-◌, ◌||◌, ℕ, Bool, true, IsTrue, List, [], ◌∷◌, length, drop, Option, None, MatchBool}
+use Rattle.std.proofs.Common.{cond}
+use Rattle.disk_tests.specs.Words.{bytes_eq, empty, get}
+use Rattle.disk_tests.specs.declared.cached.Event.{Event}
+use Rattle.disk_tests.specs.declared.cached.Event.TheVariants.{Changed, FileSynced, NamesSynced, Restarted}
+use Rattle.disk_tests.specs.declared.cached.MemFile.{MemFile}
+use Rattle.disk.specs.Files.{Files}
+use Rattle.disk.specs.Crashes.{History, DiskState}
+use Rattle.disk_tests.specs.Changes.{bytes_of_change, bound}
+
+-- the files as a read finds them, after these events. The newest event comes first.
+abbrev pub found : List Event → Files
+found [] = empty
+found (Changed name bytes is_whole ∷ older) = bound name.items (bytes_of_change bytes) (found older)
+found (FileSynced name ∷ older) = found older
+found (NamesSynced ∷ older) = found older
+found (Restarted ∷ older) = found older
+
+-- Whether the bytes of the file with this name are on the disk. The name itself may not be.
+abbrev pub is_synced : List Event → List ℕ → Bool
+is_synced [] name = true
+is_synced (Changed other bytes is_whole ∷ older) name = cond (bytes_eq name other.items) is_whole (is_synced older name)
+is_synced (FileSynced other ∷ older) name = bytes_eq name other.items || is_synced older name
+is_synced (NamesSynced ∷ older) name = is_synced older name
+is_synced (Restarted ∷ older) name = true
+
+-- What a crash may leave under a name. After a whole change: what the change brought, or what might have been left
+-- before it. After a change that is not whole: anything. Once the names are synced, a file whose bytes were synced
+-- before that is left as a read found it. After a restart, so is every file.
+abbrev pub MayStand : List Event → List ℕ → Option (List ℕ) → Type 0
+MayStand [] name left = left ≡ None
+MayStand (Changed other bytes is_whole ∷ older) name left = MatchBool (bytes_eq name other.items) (MatchBool is_whole (MayStand older name left ⊎ (left ≡ bytes_of_change bytes)) (Unit {0})) (MayStand older name left)
+MayStand (FileSynced other ∷ older) name left = MayStand older name left
+MayStand (NamesSynced ∷ older) name left = MatchBool (is_synced older name) (left ≡ get (found older) name) (MayStand older name left)
+MayStand (Restarted ∷ older) name left = left ≡ get (found older) name
+
+-- the files that a crash may leave
+abbrev pub MayStay : List Event → Files → Type 0
+MayStay events left = (name : List ℕ) → MayStand events name (get left name)
+
+abbrev pub cached_history : List Event → History
+cached_history events = record { now = length events; at = λ t files. MayStay (drop (length events - t) events) files }
+
+-- the disk after these events, on which each open file is current
+abbrev pub cached_state : List Event → DiskState MemFile
+cached_state events = record {
+  files = found events;
+  history = cached_history events;
+  Synced = λ name. IsTrue (is_synced events name);
+  IsCurrent = λ file. Unit {0};
+}
+
+abbrev pub file_name : MemFile → List ℕ
+file_name file = file.name.items
