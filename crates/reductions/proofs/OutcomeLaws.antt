@@ -1,6 +1,6 @@
 -- Refusals, and the result otherwise.
 use Rattle.std.proofs.Common.{◌≡◌, ◌*◌, ◌<◌, ◌≤◌, ℕ, zero, suc, ℤ, true, false, Bool, Option, Some, None, List, [], ◌∷◌, map, drop, length, get_or, Ok, Err, refl, sym, ap, subst, ◌∙◌, arith, mul_comm, one-mul, nat_eq, Result, ◌&&◌, not, ◌==◌, slice_set, is_ok}
-use Rattle.reductions.proofs.Words.{ne_eqb, range_with_len, insert, remove, flat_map, length-map, get_or-map, same_lists, take-take, length-map-range_with_len, get_or-map-range_with_len, Descr, Refusal, EmptyReduction, BadAxis, Scalar, IsNumber, size, decode, encode, number_of, number_size, ◌>>=◌, check, check_passed, shape_of-same, encode_item, number, item_from, one-encoded, item_at, joined, all_joined, joined_list, Layout, count, indexes, rank, length-indexes, offsets, multiples, offsets-none, shape_of, Red, ScalarDescr, wide_size, little_size, lists, reduced_shape, list_length, named_axis, is_axis, IsAxisOf, has_empty_list, number_scalar, reduced_type, ReducedType, result_scalar, needs_items, reduced, reduced_item, reduced_items, item_number, shape_after, number_at, numbers_at, AreReduced}
+use Rattle.reductions.proofs.Words.{Gives, Items, ne_eqb, range_with_len, insert, remove, flat_map, length-map, get_or-map, same_lists, take-take, length-map-range_with_len, get_or-map-range_with_len, Descr, Refusal, EmptyReduction, BadAxis, Scalar, IsNumber, size, decode, encode, number_of, number_size, ◌>>=◌, check, check_passed, shape_of-same, encode_item, number, item_from, one-encoded, item_at, joined, all_joined, joined_list, Layout, count, indexes, rank, length-indexes, offsets, multiples, offsets-none, shape_of, Red, ScalarDescr, wide_size, little_size, lists, reduced_shape, list_length, named_axis, is_axis, IsAxisOf, has_empty_list, number_scalar, reduced_type, outcome_of, IsReduction, result_scalar, needs_items, reduced, reduced_item, reduced_items, item_number, shape_after, number_at, numbers_at, AreReduced}
 
 -- ---- lengths
 
@@ -68,6 +68,9 @@ many_lists reduction shape axis keep result items rank all is found =
 
 -- ---- the outcome
 
+pub refused : (reduction : Red) (source : Items) (named : Option ℤ) (keep : Bool) (refusal : Refusal) → Gives outcome_of (Err refusal) (reduced_type reduction source.descr.now source.layout.now.shape named keep) → IsReduction reduction source named keep (Err refusal)
+refused reduction source named keep refusal gives = record { array = gives; order = tt; items = tt; bytes = tt }
+
 pub outcome_kind : (reduction : Red) (descr : Descr) (shape : List ℕ) (named : Option ℤ) (keep : Bool) (refusal : Refusal) → number_scalar descr ≡ Err refusal → reduced_type reduction descr shape named keep ≡ Err refusal
 unfolding reduced_type
 outcome_kind reduction descr shape named keep refusal is = rw is refl
@@ -76,32 +79,15 @@ pub outcome_axis : (reduction : Red) (descr : Descr) (shape : List ℕ) (named :
 unfolding reduced_type
 outcome_axis reduction descr shape named keep scalar is none = rw (is, none) refl
 
-abbrev typed : Red → Scalar → List ℕ → Result ReducedType Refusal
-typed reduction scalar shape = Ok (record { descr = ScalarDescr (result_scalar reduction scalar); shape = shape })
-
--- the outcome, if the items are numbers and the axis is valid
-outcome_after : (reduction : Red) (descr : Descr) (shape : List ℕ) (named : Option ℤ) (keep : Bool) (scalar : Scalar) → number_scalar descr ≡ Ok scalar → is_axis (length shape) named ≡ true →
-    reduced_type reduction descr shape named keep ≡ (shape_after reduction shape (named_axis (length shape) named) keep >>= (λ _. typed reduction scalar (reduced_shape shape (named_axis (length shape) named) keep)))
-unfolding reduced_type shape_after
-outcome_after reduction descr shape named keep scalar is found =
-    let result = reduced_shape shape (named_axis (length shape) named) keep in
-    rw (is, found) (go reduction scalar result (not (needs_items reduction && has_empty_list shape (named_axis (length shape) named) result)))
-  where
-    go : (reduction : Red) (scalar : Scalar) (result : List ℕ) (test : Bool) → (check test EmptyReduction >>= (λ _. shape_of result >>= (λ _. typed reduction scalar result))) ≡ ((check test EmptyReduction >>= (λ _. shape_of result)) >>= (λ _. typed reduction scalar result))
-    go reduction scalar result true = refl
-    go reduction scalar result false = refl
-
 pub outcome_ok : (reduction : Red) (descr : Descr) (shape : List ℕ) (named : Option ℤ) (keep : Bool) (scalar : Scalar) (result : List ℕ) → number_scalar descr ≡ Ok scalar → is_axis (length shape) named ≡ true →
     shape_after reduction shape (named_axis (length shape) named) keep ≡ Ok result → reduced_type reduction descr shape named keep ≡ Ok (record { descr = ScalarDescr (result_scalar reduction scalar); shape = result })
-outcome_ok reduction descr shape named keep scalar result is found after =
-    outcome_after reduction descr shape named keep scalar is found
-    ∙ ap (λ answer. answer >>= (λ _. typed reduction scalar (reduced_shape shape (named_axis (length shape) named) keep))) after
-    ∙ ap (typed reduction scalar) (shape_is reduction shape (named_axis (length shape) named) keep result after)
+unfolding reduced_type
+outcome_ok reduction descr shape named keep scalar result is found after = rw (is, found, after) refl
 
 pub outcome_shape : (reduction : Red) (descr : Descr) (shape : List ℕ) (named : Option ℤ) (keep : Bool) (scalar : Scalar) (refusal : Refusal) → number_scalar descr ≡ Ok scalar → is_axis (length shape) named ≡ true →
     shape_after reduction shape (named_axis (length shape) named) keep ≡ Err refusal → reduced_type reduction descr shape named keep ≡ Err refusal
-outcome_shape reduction descr shape named keep scalar refusal is found after =
-    outcome_after reduction descr shape named keep scalar is found ∙ ap (λ answer. answer >>= (λ _. typed reduction scalar (reduced_shape shape (named_axis (length shape) named) keep))) after
+unfolding reduced_type
+outcome_shape reduction descr shape named keep scalar refusal is found after = rw (is, found, after) refl
 
 -- ---- the items
 

@@ -1,6 +1,6 @@
 -- Test vectors: reductions as in NumPy.
 use Rattle.std.proofs.Common.{◌≡◌, ℕ, ℤ, pos, negsuc, Bool, true, false, List, [], ◌∷◌, map, Option, Some, None, Result, Ok, Err, refl}
-use Rattle.reductions.proofs.Words.{Red, Refusal, TooLarge, BadAxis, NotForThisKind, EmptyReduction, Little, Big, Two, Four, Eight, Scalar, Byte, Int, Bytes, number, shape_of, Sum, Product, Minimum, Maximum, Any, ArgMin, ArgMax, ScalarDescr, BoolScalar, lists, reduced, reduced_item, ReducedType, reduced_type}
+use Rattle.reductions.proofs.Words.{Red, Refusal, TooLarge, BadAxis, NotForThisKind, EmptyReduction, Little, Big, Two, Four, Eight, Scalar, Byte, Int, Bytes, number, shape_after, shape_of, Sum, Product, Minimum, Maximum, Any, ArgMin, ArgMax, ScalarDescr, BoolScalar, lists, reduced, reduced_item, ReducedType, reduced_type}
 use Rattle.reductions.specs.Words.{All}
 
 abbrev int : Scalar
@@ -105,5 +105,5 @@ types =
     []
 
 types_hold : map (λ row. reduced_type row.0 (ScalarDescr row.1) row.2 row.3 row.4) types ≡ map (λ row. row.5) types
-unfolding reduced_type shape_of
+unfolding reduced_type shape_after shape_of
 types_hold = refl

@@ -30,6 +30,12 @@ needs_items ArgMin = true
 needs_items ArgMax = true
 needs_items _ = false
 
+-- whether the result depends on the order of the numbers
+abbrev pub depends_on_order : Red → Bool
+depends_on_order ArgMin = true
+depends_on_order ArgMax = true
+depends_on_order _ = false
+
 -- ---- values
 
 abbrev pub is_true : ℤ → Bool

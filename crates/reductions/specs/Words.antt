@@ -3,6 +3,7 @@ pub use Rattle.arrays.specs.Blocks.{offsets_in}
 pub use Rattle.arrays.specs.ItemLists.{owned_items}
 pub use Rattle.arrays.specs.PairLaws.{firsts-reordered, pair_even}
 pub use Rattle.arrays.specs.RunLaws.{All-back, All-front, place-at, run_offsets-more, runs-within}
+pub use Rattle.arrays.specs.declared.items.Items.{Items}
 pub use Rattle.arrays.specs.declared.owned.Owned.{Owned}
 pub use Rattle.elem_descr.specs.Blocks.{item_from}
 pub use Rattle.elem_descr.specs.ByteLaws.{length-encode, one-encoded}

@@ -2,7 +2,5 @@ pub mod Numbers
 pub mod FoldLaws
 pub mod Extremes
 pub mod FoundLaws
-pub mod Axes
 pub mod Inputs
 pub mod Lines
-pub mod Orders

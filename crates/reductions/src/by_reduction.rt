@@ -5,10 +5,11 @@ ghost use Rattle.reductions.specs.Clauses.{needs_items, result_scalar, wide, Lit
 
 use crate::fills::reduced;
 use crate::folds::{Best, PlaceOf, Truth, Wrapping};
-use crate::lines::Lists;
+use crate::lines::Numbers;
 use elem_descr::{Order, Red, Scalar, Width};
 use machine_numbers::{LowFirst, Number, NumberTask, Ordered, little};
 use raw_block::{BlockBuilder, RawBlock};
+use shape_strides::StridedAxis;
 use std::alloc::{AllocError, Global};
 
 /// The type of a result. That of a sum is signed, unless the items are unsigned integers.
@@ -84,35 +85,37 @@ pub(crate) fn empty_block(
     }
 }
 
-/// A block with the reductions of lists, one after another.
+/// A block with the reductions of lists, one after another: of the list of all numbers of a layout,
+/// or of the lists along an axis that start at each of them.
 #[derive(Drop)]
 pub(crate) struct Reducing<'a> {
     pub(crate) alloc: Global,
     pub(crate) reduction: Red,
-    pub(crate) lists: Lists<'a>,
+    pub(crate) firsts: Numbers<'a>,
+    pub(crate) axis: Option<StridedAxis>,
 }
 
 impl<'a> NumberTask for Reducing<'a> {
     type Out = Result<RawBlock, AllocError>;
 
-    ghost Needs = { λ t scalar. (t.lists.width ≡ size scalar)
-        × HaveItems (length t.lists.bytes.now) (size scalar) t.lists.starts.now t.lists.axis };
+    ghost Needs = { λ t scalar. (size t.firsts.scalar.now ≡ size scalar)
+        × HaveItems t.firsts t.axis };
 
     ghost Gives = { λ t scalar block. IfOk block
-        (AreReduced t.reduction scalar t.lists.bytes.now (size (result_scalar t.reduction scalar))
-        (lists_from t.lists.starts.now t.lists.axis)) };
+        (AreReduced t.reduction scalar t.firsts.bytes.now (size (result_scalar t.reduction scalar))
+        (lists_from t.firsts.layout.now t.axis)) };
 
     fn run<N: Number, O: Ordered>(self) -> Result<RawBlock, AllocError> {
-        let (alloc, lists) = (self.alloc, self.lists);
+        let (alloc, firsts, axis) = (self.alloc, self.firsts, self.axis);
         match self.reduction {
-            Red::Sum => reduced::<N, O, Wrapping<false>>(alloc, lists),
-            Red::Product => reduced::<N, O, Wrapping<true>>(alloc, lists),
-            Red::Minimum => reduced::<N, O, Best<false>>(alloc, lists),
-            Red::Maximum => reduced::<N, O, Best<true>>(alloc, lists),
-            Red::Any => reduced::<N, O, Truth<false>>(alloc, lists),
-            Red::All => reduced::<N, O, Truth<true>>(alloc, lists),
-            Red::ArgMin => reduced::<N, O, PlaceOf<false>>(alloc, lists),
-            Red::ArgMax => reduced::<N, O, PlaceOf<true>>(alloc, lists),
+            Red::Sum => reduced::<N, O, Wrapping<false>>(alloc, firsts, axis),
+            Red::Product => reduced::<N, O, Wrapping<true>>(alloc, firsts, axis),
+            Red::Minimum => reduced::<N, O, Best<false>>(alloc, firsts, axis),
+            Red::Maximum => reduced::<N, O, Best<true>>(alloc, firsts, axis),
+            Red::Any => reduced::<N, O, Truth<false>>(alloc, firsts, axis),
+            Red::All => reduced::<N, O, Truth<true>>(alloc, firsts, axis),
+            Red::ArgMin => reduced::<N, O, PlaceOf<false>>(alloc, firsts, axis),
+            Red::ArgMax => reduced::<N, O, PlaceOf<true>>(alloc, firsts, axis),
         }
     }
 }

@@ -1,10 +1,10 @@
-//! Reduces all items of a layout, or the lines along an axis that start at each of its items: one
-//! line after another, or all lines at once, row by row.
+//! Reduces all numbers of a layout, or the lines along an axis that start at each of them: one line
+//! after another, or all lines at once, row by row.
 ghost use Rattle.std.specs.Prelude.{◌≡◌, ◌+◌, ◌*◌, ◌<◌, ◌≤◌, [], ◌∷◌, length, IfOk, Some};
-ghost use Rattle.reductions.specs.Clauses.{Little, number_of_side, count, offsets, run_offsets, number_at, numbers_at, lines, lists_from, TakesIn, IsPushed, AreReduced, AddsReduced, HaveItems, all_lines, line_run, AreHeld, EachOf, EachPair};
+ghost use Rattle.reductions.specs.Clauses.{Little, number_of_side, count, offsets, run_offsets, number_at, numbers_at, size, lines, lists_from, HaveTakenRow, IsPushed, AreReduced, AddsReduced, HaveItems, all_lines, line_run, AreHeld, EachOf};
 
 use crate::folds::Fold;
-use crate::lines::{Lines, Lists, fold_line, fold_run};
+use crate::lines::{Lines, Numbers, fold_line, fold_run};
 use machine_numbers::{LowFirst, Number, Ordered, Side};
 use raw_block::{BlockBuilder, RawBlock};
 use shape_strides::{Runs, StridedAxis};
@@ -18,20 +18,21 @@ fn number_at<S: Number, O: Ordered>(bytes: &[u8], at: usize) -> S
     S::read::<O>(&bytes[at..at + S::WIDTH])
 }
 
-/// The result for all items of a layout.
-fn fold_all<S: Number, O: Ordered, F: Fold<S>>(lists: Lists<'_>) -> F::Total
-    requires width { lists.width ≡ S.WIDTH }
-    requires some { 0 < count lists.starts.now.shape }
+/// The result for all numbers of a layout.
+fn fold_all<S: Number, O: Ordered, F: Fold<S>>(numbers: Numbers<'_>) -> F::Total
+    requires width { size numbers.scalar.now ≡ S.WIDTH }
+    requires some { 0 < count numbers.layout.now.shape }
     ensures { F.Total.value result
         ≡ F.meaning
-        (numbers_at (S.scalar O.order) lists.entry.bytes.now (offsets lists.entry.starts.now)) }
+        (numbers_at (S.scalar O.order) numbers.entry.bytes.now (offsets numbers.entry.layout.now)) }
 {
-    let _items = lists.starts.shape.items();
-    let mut held = F::start(number_at::<S, O>(lists.bytes, lists.starts.offset));
+    // For the prover alone: the number of items is within the limit.
+    let _items = numbers.layout.shape.items();
+    let mut held = F::start(number_at::<S, O>(numbers.bytes, numbers.layout.offset));
     let mut seen = 0;
-    for run in Runs::new(lists.starts) {
+    for run in Runs::new(numbers.layout) {
         let side = Side {
-            bytes: lists.bytes,
+            bytes: numbers.bytes,
             run,
             width: S::WIDTH,
         };
@@ -64,10 +65,7 @@ fn begin<S: Number, O: Ordered, F: Fold<S>>(
 fn take_each<S: Number, O: Ordered, F: Fold<S>>(held: &mut [F::Held], row: Side<'_>, seen: usize)
     requires width { row.width ≡ S.WIDTH }
     requires even { length held.old ≡ row.run.count }
-    ensures len { length held.new ≡ length held.old }
-    ensures held { EachPair row.entry.run.count held.old held.new
-        (λ j one after.
-        TakesIn F.holds one seen (number_of_side (S.scalar O.order) row.entry j ∷ []) after) }
+    ensures { HaveTakenRow F.holds (S.scalar O.order) row.entry seen held.old held.new }
 {
     for j in 0..row.run.count {
         held[j] = F::step(held[j], row.number::<S, O>(j), seen);
@@ -78,10 +76,7 @@ fn take_each<S: Number, O: Ordered, F: Fold<S>>(held: &mut [F::Held], row: Side<
 fn take_row<S: Number, O: Ordered, F: Fold<S>>(held: &mut [F::Held], row: Side<'_>, seen: usize)
     requires width { row.width ≡ S.WIDTH }
     requires even { length held.old ≡ row.run.count }
-    ensures len { length held.new ≡ length held.old }
-    ensures held { EachPair row.entry.run.count held.old held.new
-        (λ j one after.
-        TakesIn F.holds one seen (number_of_side (S.scalar O.order) row.entry j ∷ []) after) }
+    ensures { HaveTakenRow F.holds (S.scalar O.order) row.entry seen held.old held.new }
 {
     if row.run.step == S::WIDTH as isize {
         return take_each::<S, O, F>(held, row.with_step(S::WIDTH as isize), seen);
@@ -163,27 +158,28 @@ fn push_lines<S: Number, O: Ordered, F: Fold<S>>(
     Ok(block)
 }
 
-/// Appends the results of the lines along an axis that start at the items of a layout.
+/// Appends the results of the lines along an axis that start at these numbers.
 fn push_along<S: Number, O: Ordered, F: Fold<S>>(
     alloc: Global,
     block: BlockBuilder,
-    lists: Lists<'_>,
+    firsts: Numbers<'_>,
     axis: StridedAxis,
 ) -> Result<BlockBuilder, AllocError>
-    requires width { lists.width ≡ S.WIDTH }
-    requires items { HaveItems (length lists.bytes.now) S.WIDTH lists.starts.now (Some axis) }
-    requires room { count lists.starts.now.shape * F.Total.WIDTH ≤ block.1 }
+    requires width { size firsts.scalar.now ≡ S.WIDTH }
+    requires items { HaveItems firsts (Some axis) }
+    requires room { count firsts.layout.now.shape * F.Total.WIDTH ≤ block.1 }
     ensures { IfOk result
-        (AddsReduced F.reduction (S.scalar O.order) lists.entry.bytes.now F.Total.WIDTH
-        (lines axis (offsets lists.entry.starts.now)) block) }
+        (AddsReduced F.reduction (S.scalar O.order) firsts.entry.bytes.now F.Total.WIDTH
+        (lines axis (offsets firsts.entry.layout.now)) block) }
 {
+    // For the prover alone: the number of items is within the limit.
+    let _items = firsts.layout.shape.items();
     let mut block = block;
-    let _items = lists.starts.shape.items();
-    for run in Runs::new(lists.starts) {
+    for run in Runs::new(firsts.layout) {
         let starts = Side {
-            bytes: lists.bytes,
+            bytes: firsts.bytes,
             run,
-            width: lists.width,
+            width: S::WIDTH,
         };
         block = push_lines::<S, O, F>(alloc, block, Lines { starts, axis })?;
     }
@@ -194,22 +190,23 @@ fn push_along<S: Number, O: Ordered, F: Fold<S>>(
 #[inline(never)]
 pub(crate) fn reduced<S: Number, O: Ordered, F: Fold<S>>(
     alloc: Global,
-    lists: Lists<'_>,
+    firsts: Numbers<'_>,
+    axis: Option<StridedAxis>,
 ) -> Result<RawBlock, AllocError>
-    requires width { lists.width ≡ S.WIDTH }
-    requires items { HaveItems (length lists.bytes.now) S.WIDTH lists.starts.now lists.axis }
+    requires width { size firsts.scalar.now ≡ S.WIDTH }
+    requires items { HaveItems firsts axis }
     ensures { IfOk result
-        (AreReduced F.reduction (S.scalar O.order) lists.entry.bytes.now F.Total.WIDTH
-        (lists_from lists.entry.starts.now lists.entry.axis)) }
+        (AreReduced F.reduction (S.scalar O.order) firsts.entry.bytes.now F.Total.WIDTH
+        (lists_from firsts.entry.layout.now axis)) }
 {
     let width = <F::Total as Number>::WIDTH;
-    let items = lists.starts.shape.items();
-    let Some(axis) = lists.axis else {
+    let items = firsts.layout.shape.items();
+    let Some(axis) = axis else {
         let mut block = BlockBuilder::try_new(alloc, width)?;
-        push_total(&mut block, fold_all::<S, O, F>(lists));
+        push_total(&mut block, fold_all::<S, O, F>(firsts));
         return Ok(block.finish());
     };
     let block = BlockBuilder::try_new(alloc, items * width)?;
-    let full = push_along::<S, O, F>(alloc, block, lists, axis)?;
+    let full = push_along::<S, O, F>(alloc, block, firsts, axis)?;
     Ok(full.finish())
 }

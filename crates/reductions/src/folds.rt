@@ -1,14 +1,14 @@
 //! Reductions that visit numbers one by one.
-ghost use Rattle.std.specs.Prelude.{◌≡◌, ◌+◌, ◌<◌, ◌^◌, ℕ, ℤ, pos, Bool, true, false, [], ◌∷◌, ◌++◌, List, length, if◌then◌else◌, is_some, IfSome, IsTrue};
+ghost use Rattle.std.specs.Prelude.{◌≡◌, ◌+◌, ◌<◌, ◌^◌, ℕ, ℤ, pos, Bool, true, false, [], ◌∷◌, ◌++◌, List, length, if◌then◌else◌, IsTrue};
 ghost use Rattle.std.proofs.Common.{refl};
 ghost use Rattle.reductions.specs.Words.{fold, Order, Little, low_bits, size, Red};
 ghost use Rattle.reductions.specs.Reductions.{first_place, result_scalar};
-ghost use Rattle.reductions.specs.inside.Numbers.{number_at, numbers_at, numbers_of, TakesIn, IsStored, IsReduced};
+ghost use Rattle.reductions.specs.inside.Numbers.{number_at, numbers_at, numbers_of, CanTakeIn, TakesIn, IsStored, IsReduced};
 ghost use Rattle.reductions.specs.inside.FoldLaws.{total_of, total, total_is, total_size, truth_of, truth, truth_is, truth_size, is_true_bits};
 ghost use Rattle.reductions.specs.inside.FoundLaws.{HasFound, HasSought, better_next, better_stays};
 ghost use Rattle.reductions.specs.inside.Extremes.{reduction_of, places_of, is_better, better, best_of, best_from, best_is, best_size, place_is, place_size, better_kept, better_left};
 
-use crate::lines::{fold_each, part, place_of};
+use crate::lines::{part, place_of};
 use machine_numbers::{Number, Ordered, Side};
 
 /// A reduction of numbers of one type, number by number. It starts with the first number, and then
@@ -56,19 +56,17 @@ pub(crate) trait Fold<S: Number> {
         false
     }
 
-    /// Visits numbers, which have `seen` numbers before them, if there is a faster way than one by
-    /// one.
-    fn fold_together<O: Ordered>(
-        held: Self::Held,
-        seen: usize,
-        side: Side<'_>,
-    ) -> Option<Self::Held>
-        requires width { side.width ≡ S.WIDTH }
-        requires few { seen + side.run.count < 2 ^ 63 }
-        ensures { IfSome result
-            (TakesIn holds held seen (numbers_of (S.scalar O.order) side.entry)) }
+    /// Visits numbers, which have `seen` numbers before them.
+    #[inline(always)]
+    fn visit<O: Ordered>(held: Self::Held, seen: usize, side: Side<'_>) -> Self::Held
+        requires { CanTakeIn S.WIDTH seen side }
+        ensures { TakesIn holds held seen (numbers_of (S.scalar O.order) side.entry) result }
     {
-        None
+        let mut held = held;
+        for k in 0..side.run.count {
+            held = Self::step(held, side.number::<S, O>(k), seen + k);
+        }
+        held
     }
 
     ghost gives: { (order : Order) (bytes : List ℕ) (numbers : List ℤ) → length numbers < 2 ^ 63
@@ -242,7 +240,7 @@ fn seek_in<S: Number, O: Ordered, const GREATEST: bool>(
     ensures { HasSought GREATEST (numbers_of (S.scalar O.order) block.entry)
         (S.value held.best) held.place place (S.value result.best) result.place }
 {
-    let best = fold_each::<S, O, Best<GREATEST>>(held.best, 0, block);
+    let best = <Best<GREATEST> as Fold<S>>::visit::<O>(held.best, 0, block);
     if !is_better::<S, GREATEST>(best, held.best) {
         return held;
     }
@@ -291,7 +289,7 @@ impl<S: Number, const GREATEST: bool> Fold<S> for PlaceOf<GREATEST> {
         S::are_bools()
     }
 
-    fn fold_together<O: Ordered>(held: Found<S>, seen: usize, side: Side<'_>) -> Option<Found<S>> {
+    fn visit<O: Ordered>(held: Found<S>, seen: usize, side: Side<'_>) -> Found<S> {
         let all = side.run.count;
         let mut sought = held;
         sought.place = all;
@@ -303,11 +301,11 @@ impl<S: Number, const GREATEST: bool> Fold<S> for PlaceOf<GREATEST> {
         }
         let Found { best, place } = sought;
         if place == all {
-            return Some(held);
+            return held;
         }
         let block = part(side, place, BLOCK.min(all - place));
         let place = seen + place + place_of::<S, O>(best, block);
-        Some(Found { best, place })
+        Found { best, place }
     }
 
     fn finish(held: Found<S>) -> u64 {

@@ -2,34 +2,21 @@
 ghost use Rattle.std.specs.Prelude.{◌≡◌, ◌+◌, ◌^◌, ◌<◌, ◌≤◌, ℕ, length, All, IsTrue};
 ghost use Rattle.reductions.specs.Words.{size, place, EachWithin, offsets};
 ghost use Rattle.reductions.specs.Reductions.{first_place};
-ghost use Rattle.reductions.specs.inside.Numbers.{numbers_of, TakesIn, IsPart, AreAlong};
+ghost use Rattle.reductions.specs.inside.Numbers.{numbers_of, CanTakeIn, TakesIn, IsPart};
 
 use crate::folds::Fold;
 use elem_descr::Scalar;
 use machine_numbers::{Number, Ordered, Side, place};
 use shape_strides::{Layout, Run, StridedAxis};
 
-/// The numbers of a layout that are reduced along an axis, or all of them.
+/// The numbers of a layout.
 #[derive(Clone, Copy, Drop)]
-pub(crate) struct Input<'a> {
+pub(crate) struct Numbers<'a> {
     pub(crate) bytes: &'a [u8],
     pub(crate) layout: &'a Layout,
     pub(crate) scalar: &'a Scalar,
-    pub(crate) axis: Option<usize>,
     pub(crate) ghost inside: { All (λ offset. offset + size scalar.now ≤ length bytes.now)
         (offsets layout.now) },
-}
-
-/// The lists of items, of `width` bytes, that are reduced: all items of a layout, or the items
-/// along an axis from each of its items on.
-#[derive(Clone, Copy, Drop)]
-pub(crate) struct Lists<'a> {
-    pub(crate) bytes: &'a [u8],
-    pub(crate) width: usize,
-    pub(crate) starts: &'a Layout,
-    pub(crate) axis: Option<StridedAxis>,
-    pub(crate) ghost inside: { All (λ offset. offset + width ≤ length bytes.now)
-        (offsets starts.now) },
 }
 
 /// Lines along an axis, one for each start.
@@ -43,35 +30,6 @@ pub(crate) struct Lines<'a> {
         axis.stride starts.width axis.len },
 }
 
-/// An axis of `len` items with the step of a run.
-#[inline(always)]
-fn axis_of(run: Run, len: usize) -> StridedAxis
-    ensures { result ≡ record { len = len; stride = run.step } }
-{
-    StridedAxis {
-        len,
-        stride: run.step,
-    }
-}
-
-/// The items along an axis from an offset on, in the bytes of a side and of its width.
-#[inline(always)]
-fn items_along<'a>(side: Side<'a>, offset: usize, axis: StridedAxis) -> Side<'a>
-    requires few { axis.len < 2 ^ 63 }
-    requires within { EachWithin (length side.bytes.now) offset axis.stride side.width axis.len }
-    ensures { AreAlong side.entry offset axis result }
-{
-    Side {
-        bytes: side.bytes,
-        run: Run {
-            offset,
-            count: axis.len,
-            step: axis.stride,
-        },
-        width: side.width,
-    }
-}
-
 /// Some of the items, starting with one of them.
 #[inline(always)]
 pub(crate) fn part<'a>(side: Side<'a>, from: usize, count: usize) -> Side<'a>
@@ -79,7 +37,15 @@ pub(crate) fn part<'a>(side: Side<'a>, from: usize, count: usize) -> Side<'a>
     requires fits { from + count ≤ side.run.count }
     ensures { IsPart from count side.entry result }
 {
-    items_along(side, place(side.run, from), axis_of(side.run, count))
+    Side {
+        bytes: side.bytes,
+        run: Run {
+            offset: place(side.run, from),
+            count,
+            ..side.run
+        },
+        width: side.width,
+    }
 }
 
 impl<'a> Lines<'a> {
@@ -91,7 +57,15 @@ impl<'a> Lines<'a> {
         requires { j < self.starts.run.count }
         ensures { IsLine self.entry j result }
     {
-        items_along(self.starts, place(self.starts.run, j), self.axis)
+        Side {
+            bytes: self.starts.bytes,
+            run: Run {
+                offset: place(self.starts.run, j),
+                count: self.axis.len,
+                step: self.axis.stride,
+            },
+            width: self.starts.width,
+        }
     }
 
     /// The `k`-th item of each line.
@@ -101,9 +75,14 @@ impl<'a> Lines<'a> {
         requires some { 1 ≤ self.starts.run.count }
         ensures { IsRow self.entry k result }
     {
-        let starts = self.starts.run;
-        let offset = place(self.line(0).run, k);
-        items_along(self.starts, offset, axis_of(starts, starts.count))
+        Side {
+            bytes: self.starts.bytes,
+            run: Run {
+                offset: place(self.line(0).run, k),
+                ..self.starts.run
+            },
+            width: self.starts.width,
+        }
     }
 
     /// Whether rows are closer together than the items of a line.
@@ -115,52 +94,16 @@ impl<'a> Lines<'a> {
     }
 }
 
-/// Reduces numbers one by one. `seen` numbers come before them.
-#[inline(always)]
-pub(crate) fn fold_each<S: Number, O: Ordered, F: Fold<S>>(
-    held: F::Held,
-    seen: usize,
-    side: Side<'_>,
-) -> F::Held
-    requires width { side.width ≡ S.WIDTH }
-    requires few { seen + side.run.count < 2 ^ 63 }
-    ensures { TakesIn F.holds held seen (numbers_of (S.scalar O.order) side.entry) result }
-{
-    let mut held = held;
-    for k in 0..side.run.count {
-        held = F::step(held, side.number::<S, O>(k), seen + k);
-    }
-    held
-}
-
-/// Reduces numbers, by a faster way than one by one if there is one. `seen` numbers come before them.
-#[inline(always)]
-fn fold_side<S: Number, O: Ordered, F: Fold<S>>(
-    held: F::Held,
-    seen: usize,
-    side: Side<'_>,
-) -> F::Held
-    requires width { side.width ≡ S.WIDTH }
-    requires few { seen + side.run.count < 2 ^ 63 }
-    ensures { TakesIn F.holds held seen (numbers_of (S.scalar O.order) side.entry) result }
-{
-    match F::fold_together::<O>(held, seen, side) {
-        Some(after) => after,
-        None => fold_each::<S, O, F>(held, seen, side),
-    }
-}
-
 /// How many numbers are reduced before asking whether the result is already decided.
 const BLOCK: usize = 4096;
 
 /// Reduces numbers until the result is decided. `seen` numbers come before them.
-pub(crate) fn fold_blocks<S: Number, O: Ordered, F: Fold<S>>(
+fn fold_blocks<S: Number, O: Ordered, F: Fold<S>>(
     held: F::Held,
     seen: usize,
     side: Side<'_>,
 ) -> F::Held
-    requires width { side.width ≡ S.WIDTH }
-    requires few { seen + side.run.count < 2 ^ 63 }
+    requires { CanTakeIn S.WIDTH seen side }
     ensures { TakesIn F.holds held seen (numbers_of (S.scalar O.order) side.entry) result }
 {
     let mut held = held;
@@ -170,7 +113,7 @@ pub(crate) fn fold_blocks<S: Number, O: Ordered, F: Fold<S>>(
             return held;
         }
         let block = part(side, done, BLOCK.min(side.run.count - done));
-        held = fold_side::<S, O, F>(held, seen + done, block);
+        held = F::visit::<O>(held, seen + done, block);
         done += block.run.count;
     }
     held
@@ -200,18 +143,17 @@ pub(crate) fn fold_run<S: Number, O: Ordered, F: Fold<S>>(
     seen: usize,
     side: Side<'_>,
 ) -> F::Held
-    requires width { side.width ≡ S.WIDTH }
-    requires few { seen + side.run.count < 2 ^ 63 }
+    requires { CanTakeIn S.WIDTH seen side }
     ensures { TakesIn F.holds held seen (numbers_of (S.scalar O.order) side.entry) result }
 {
     if side.run.step != S::WIDTH as isize {
-        return fold_side::<S, O, F>(held, seen, side);
+        return F::visit::<O>(held, seen, side);
     }
     let near = side.with_step(S::WIDTH as isize);
     if F::may_end_early() {
         return fold_blocks::<S, O, F>(held, seen, near);
     }
-    fold_side::<S, O, F>(held, seen, near)
+    F::visit::<O>(held, seen, near)
 }
 
 /// The result for some numbers.

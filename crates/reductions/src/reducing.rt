@@ -1,9 +1,9 @@
 //! Reductions of the items of an array.
-ghost use Rattle.std.specs.Prelude.{All, ◌≡◌, ◌+◌, ◌*◌, ◌<◌, ◌≤◌, true, false, pos, Some, None, length, map, slice_index, slice_index_or, IfOk};
-ghost use Rattle.reductions.specs.Clauses.{flat_map, item_from, IsNumber, size, item_size, encode_item, Gives, C, count, offsets, max_items, offsets_in, owned_items, named_axis, list_length, lists, IsAxisOf, reduced_type, outcome_of, needs_items, reduced_items, lists_from, HaveItems, depends_on_order, lists_of, AreResults};
+ghost use Rattle.std.specs.Prelude.{◌≡◌, ◌<◌, ◌≤◌, true, None, pos, length, slice_index, slice_index_or, IfOk};
+ghost use Rattle.reductions.specs.Clauses.{count, max_items, list_length, IsAxisOf, IsNumber, IsReduction, needs_items, lists_from, HaveItems, depends_on_order, lists_of, AreResults};
 
 use crate::by_reduction::{Reducing, depends_on_order, empty_block, result_scalar};
-use crate::lines::{Input, Lists};
+use crate::lines::Numbers;
 use crate::reduced_axis::{list_length, named_axis, number_scalar, shape_after, starts_of};
 use arrays::{Items, Owned, copy, goes_by_columns};
 use elem_descr::{Descr, MemoryOrder, Red, Refusal};
@@ -29,57 +29,48 @@ fn axis_at(layout: &Layout, axis: usize) -> StridedAxis
     }
 }
 
-/// A block with the reductions of the lists that begin at these items.
+/// A block with the reductions of the lists that start at these numbers.
 fn reduced_from(
     alloc: Global,
     reduction: Red,
-    input: Input<'_>,
-    starts: &Layout,
+    firsts: Numbers<'_>,
     axis: Option<StridedAxis>,
 ) -> Result<RawBlock, AllocError>
-    requires number { IsNumber input.scalar.now }
-    requires inside { All (λ offset. offset + size input.scalar.now ≤ length input.bytes.now)
-        (offsets starts.now) }
-    requires items { HaveItems (length input.bytes.now) (size input.scalar.now) starts.now axis }
-    requires lists { lists_of input ≡ lists_from starts.now axis }
-    ensures { IfOk result (AreResults reduction input.entry) }
+    requires number { IsNumber firsts.scalar.now }
+    requires items { HaveItems firsts axis }
+    ensures { IfOk result
+        (AreResults reduction firsts.entry (lists_from firsts.entry.layout.now axis)) }
 {
-    let lists = Lists {
-        bytes: input.bytes,
-        width: input.scalar.size(),
-        starts,
-        axis,
-    };
     let task = Reducing {
         alloc,
         reduction,
-        lists,
+        firsts,
+        axis,
     };
-    on_number(input.scalar, task)
+    on_number(firsts.scalar, task)
 }
 
-/// A block with the reduction of all items, visited in the order of memory if their order does not
-/// matter.
-fn reduced_all(alloc: Global, reduction: Red, input: Input<'_>) -> Result<RawBlock, AllocError>
-    requires number { IsNumber input.scalar.now }
-    requires all { input.axis ≡ None }
-    requires some { 0 < count input.layout.now.shape }
-    ensures { IfOk result (AreResults reduction input.entry) }
+/// A block with the reduction of all numbers, visited in the order of memory if their order does
+/// not matter.
+fn reduced_all(alloc: Global, reduction: Red, numbers: Numbers<'_>) -> Result<RawBlock, AllocError>
+    requires number { IsNumber numbers.scalar.now }
+    requires some { 0 < count numbers.layout.now.shape }
+    ensures { IfOk result
+        (AreResults reduction numbers.entry (lists_of numbers.entry None)) }
 {
     if depends_on_order(reduction) {
-        return reduced_from(alloc, reduction, input, input.layout, None);
+        return reduced_from(alloc, reduction, numbers, None);
     }
-    match in_memory_order(alloc, input.layout, input.layout) {
+    match in_memory_order(alloc, numbers.layout, numbers.layout) {
         Some(pair) => {
-            let near = Input {
-                bytes: input.bytes,
+            let near = Numbers {
+                bytes: numbers.bytes,
                 layout: &pair.target,
-                scalar: input.scalar,
-                axis: None,
+                scalar: numbers.scalar,
             };
-            reduced_from(alloc, reduction, near, &pair.target, None)
+            reduced_from(alloc, reduction, near, None)
         }
-        None => reduced_from(alloc, reduction, input, input.layout, None),
+        None => reduced_from(alloc, reduction, numbers, None),
     }
 }
 
@@ -88,26 +79,33 @@ fn reduced_block(
     alloc: Global,
     items: usize,
     reduction: Red,
-    input: Input<'_>,
+    numbers: Numbers<'_>,
+    axis: Option<usize>,
 ) -> Result<RawBlock, AllocError>
-    requires number { IsNumber input.scalar.now }
-    requires axis { IsAxisOf (length input.layout.now.shape) input.axis }
-    requires items { items ≡ length (lists_of input) }
+    requires number { IsNumber numbers.scalar.now }
+    requires axis { IsAxisOf (length numbers.layout.now.shape) axis }
+    requires items { items ≡ length (lists_of numbers axis) }
     requires few { items ≤ max_items }
     requires some { needs_items reduction ≡ true
-        → list_length input.layout.now.shape input.axis ≡ 0 → items ≡ 0 }
-    ensures { IfOk result (AreResults reduction input.entry) }
+        → list_length numbers.layout.now.shape axis ≡ 0 → items ≡ 0 }
+    ensures { IfOk result
+        (AreResults reduction numbers.entry (lists_of numbers.entry axis)) }
 {
-    if list_length(&input.layout.shape, input.axis) == 0 {
-        let block = empty_block(alloc, reduction, input.scalar, items)?;
+    if list_length(&numbers.layout.shape, axis) == 0 {
+        let block = empty_block(alloc, reduction, numbers.scalar, items)?;
         return Ok(block);
     }
-    let Some(axis) = input.axis else {
-        return reduced_all(alloc, reduction, input);
+    let Some(axis) = axis else {
+        return reduced_all(alloc, reduction, numbers);
     };
-    let starts = starts_of(alloc, input.layout, axis)?;
-    let along = axis_at(input.layout, axis);
-    reduced_from(alloc, reduction, input, &starts, Some(along))
+    let along = axis_at(numbers.layout, axis);
+    let starts = starts_of(alloc, numbers.layout, axis)?;
+    let firsts = Numbers {
+        bytes: numbers.bytes,
+        layout: &starts,
+        scalar: numbers.scalar,
+    };
+    reduced_from(alloc, reduction, firsts, Some(along))
 }
 
 /// The result of `reduce`, whatever the order of the items in memory.
@@ -118,26 +116,17 @@ fn reduce_items(
     axis: Option<i128>,
     keep: bool,
 ) -> Result<Owned, Refusal>
-    ensures array { Gives outcome_of result
-        (reduced_type reduction items.entry.descr.now items.entry.layout.now.shape axis keep) }
-    ensures order { IfOk result
-        (λ o. offsets o.layout ≡ offsets_in C (item_size o.descr) o.layout.shape) }
-    ensures items { IfOk result (λ o. map (item_from o.descr o.block) (offsets o.layout)
-        ≡ reduced_items reduction o.descr items.entry.descr.now items.entry.block.now
-        (lists items.entry.layout.now.shape (named_axis (length items.entry.layout.now.shape) axis)
-        (offsets items.entry.layout.now))) }
-    ensures bytes { IfOk result (λ o. o.block ≡ flat_map (encode_item o.descr) (owned_items o)) }
+    ensures { IsReduction reduction items.entry axis keep result }
 {
     let scalar = number_scalar(items.descr)?;
     let axis = named_axis(items.layout.shape.rank(), axis)?;
     let shape = shape_after(alloc, reduction, &items.layout.shape, axis, keep)?;
-    let input = Input {
+    let numbers = Numbers {
         bytes: items.block.bytes(),
         layout: items.layout,
         scalar: &scalar,
-        axis,
     };
-    let out = reduced_block(alloc, shape.items(), reduction, input)?;
+    let out = reduced_block(alloc, shape.items(), reduction, numbers, axis)?;
     let descr = Descr::Scalar(result_scalar(reduction, &scalar));
     let owned = Owned::over(alloc, descr, &shape, MemoryOrder::C, out)?;
     Ok(owned)
@@ -156,15 +145,7 @@ pub fn reduce(
     axis: Option<i128>,
     keep: bool,
 ) -> Result<Owned, Refusal>
-    ensures array { Gives outcome_of result
-        (reduced_type reduction items.entry.descr.now items.entry.layout.now.shape axis keep) }
-    ensures order { IfOk result
-        (λ o. offsets o.layout ≡ offsets_in C (item_size o.descr) o.layout.shape) }
-    ensures items { IfOk result (λ o. map (item_from o.descr o.block) (offsets o.layout)
-        ≡ reduced_items reduction o.descr items.entry.descr.now items.entry.block.now
-        (lists items.entry.layout.now.shape (named_axis (length items.entry.layout.now.shape) axis)
-        (offsets items.entry.layout.now))) }
-    ensures bytes { IfOk result (λ o. o.block ≡ flat_map (encode_item o.descr) (owned_items o)) }
+    ensures { IsReduction reduction items.entry axis keep result }
 {
     // Where the order does not matter, all items are visited in the order of memory.
     if axis.is_some()

@@ -1,8 +1,8 @@
 -- Lines along an axis, and rows across them.
-use Rattle.std.specs.Prelude.{◌≡◌, ◌<◌, ℕ, ℤ, List, length, slice_index_or}
-use Rattle.reductions.specs.Words.{Scalar, place, Side, Run, run_along, run_offsets}
+use Rattle.std.specs.Prelude.{◌≡◌, ◌<◌, ℕ, ℤ, List, [], ◌∷◌, length, slice_index_or}
+use Rattle.reductions.specs.Words.{Scalar, number_of_side, place, Side, Run, run_along, run_offsets}
 use Rattle.reductions.specs.declared.lines.Lines.{Lines}
-use Rattle.reductions.specs.inside.Numbers.{number_at, numbers_at, lines, AreAlong}
+use Rattle.reductions.specs.inside.Numbers.{number_at, numbers_at, lines, AreAlong, TakesIn}
 
 -- the run of the `j`-th line, and the line itself
 abbrev pub line_run : Lines → ℕ → Run
@@ -32,6 +32,11 @@ EachOf {X} n xs P = (j : ℕ) (d : X) → j < n → P j (slice_index_or xs j d)
 
 abbrev pub EachPair : {X : Type 0} → ℕ → List X → List X → (ℕ → X → X → Type 0) → Type 0
 EachPair {X} n xs ys P = (j : ℕ) (d : X) → j < n → P j (slice_index_or xs j d) (slice_index_or ys j d)
+
+-- each state has visited its number of a row, which has `seen` numbers before it on its line
+pub record HaveTakenRow {Held : Type 0} (holds : Held → ℤ → List ℤ → Type 0) (scalar : Scalar) (row : Side) (seen : ℕ) (old new : List Held) : Type 0 where
+  pub len : length new ≡ length old
+  pub held : EachPair row.run.count old new (λ j one after. TakesIn holds one seen (number_of_side scalar row j ∷ []) after)
 
 -- each line has a state, which is that after its first `k` numbers
 abbrev pub AreHeld : {Held : Type 0} → (Held → ℤ → List ℤ → Type 0) → Scalar → Lines → ℕ → List Held → Type 0

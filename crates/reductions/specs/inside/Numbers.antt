@@ -1,6 +1,6 @@
 -- Numbers as they are read from bytes, and the bytes of their reductions.
-use Rattle.std.specs.Prelude.{◌≡◌, ◌*◌, ◌^◌, ◌<◌, ◌≤◌, ℕ, ℤ, Option, Some, None, List, [], ◌∷◌, ◌++◌, ◌+◌, length, map, slice_index_or, All}
-use Rattle.reductions.specs.Words.{Scalar, number, size, decode, encode, number_of, place, item_at, EachWithin, Layout, count, offsets, StridedAxis, run_along, run_offsets, Red, Side}
+use Rattle.std.specs.Prelude.{◌≡◌, ◌*◌, ◌^◌, ◌<◌, ℕ, ℤ, Option, Some, None, List, [], ◌∷◌, ◌++◌, ◌+◌, length, map, slice_index_or}
+use Rattle.reductions.specs.Words.{Scalar, number, size, decode, encode, number_of, place, item_at, Layout, offsets, StridedAxis, run_along, run_offsets, Red, Side}
 use Rattle.reductions.specs.Reductions.{result_scalar, reduced}
 
 -- the number at an offset
@@ -31,6 +31,11 @@ AreAlong s offset axis items = (items.bytes.now ≡ s.bytes.now) × (items.width
 abbrev pub IsPart : ℕ → ℕ → Side → Side → Type 0
 IsPart m n s part = AreAlong s (place s.run.offset s.run.step m) (record { len = n; stride = s.run.step }) part
 
+-- the numbers of a side, of `bytes` bytes each, can be visited after `seen` others
+pub record CanTakeIn (bytes seen : ℕ) (s : Side) : Type 0 where
+  pub width : s.width ≡ bytes
+  pub few : seen + s.run.count < 2 ^ 63
+
 -- `after` is the state `held` after it has visited `numbers`, which have `seen` numbers before them
 abbrev pub TakesIn : {Held : Type 0} → (Held → ℤ → List ℤ → Type 0) → Held → ℕ → List ℤ → Held → Type 0
 TakesIn holds held seen numbers after = (first : ℤ) (before : List ℤ) → seen ≡ length before → holds held first before → holds after first (before ++ numbers)
@@ -57,10 +62,3 @@ IsPushed scalar width z old new = (new.0 ≡ old.0 ++ encode scalar (number z)) 
 abbrev pub lists_from : Layout → Option StridedAxis → List (List ℕ)
 lists_from starts None = offsets starts ∷ []
 lists_from starts (Some axis) = lines axis (offsets starts)
-
--- Each such list has items. If the lists lie along an axis, they have fewer than 2 ^ 63 items, and each item, of
--- `width` bytes, lies within `len` bytes.
-abbrev pub HaveItems : ℕ → ℕ → Layout → Option StridedAxis → Type 0
-HaveItems len width starts None = 0 < count starts.shape
-HaveItems len width starts (Some axis) =
-    (1 ≤ axis.len) × (axis.len < 2 ^ 63) × All (λ offset. EachWithin len offset axis.stride width axis.len) (offsets starts)

@@ -5,14 +5,14 @@ use Rattle.reductions.proofs.fills.fold_all.Goals as goal
 
 pub number_at-requires : goal.number_at-requires
 number_at-requires g c =
-    let l = c.args.lists.starts.now in
-    let first = c.args.lists.inside 0 0 (omega (arith, length-offsets l, c.requires.some)) in
+    let l = c.args.numbers.layout.now in
+    let first = c.args.numbers.inside 0 0 (omega (arith, length-offsets l, c.requires.some)) in
     omega (arith, first, entry-first l c.requires.some, c.requires.width)
 
 pub loop-run-init : goal.loop-run-init
 loop-run-init g c =
-    let s = c.args.lists in
-    let l = s.starts.now in
+    let s = c.args.numbers in
+    let l = s.layout.now in
     let len = length s.bytes.now in
     let width = g.S.Number.WIDTH in
     let scalar = g.S.Number.scalar g.O.Ordered.order in
@@ -30,7 +30,7 @@ loop-run-init g c =
 
 pub invariant_of-side : goal.invariant_of-side
 invariant_of-side g c =
-    let len = length c.args.lists.bytes.now in
+    let len = length c.args.numbers.bytes.now in
     let run = c.in-Some.run' in
     let steps = c.in-Some.ensures.steps in
     let limit = c.items-items.ensures in
@@ -40,9 +40,11 @@ invariant_of-side g c =
           (All-head (λ r. EachWithin len r.offset r.step g.S.Number.WIDTH r.count) run c.next.new.self (subst (All (λ r. EachWithin len r.offset r.step g.S.Number.WIDTH r.count)) steps c.loop-run.invariant.within));
     }
 
-pub fold_run-held-requires-clause-few : goal.fold_run-held-requires-clause-few
-fold_run-held-requires-clause-few g c =
-    omega (arith, c.loop-run.invariant.counted, ap (λ rs. length (all_offsets rs)) c.in-Some.ensures.steps, length-first c.in-Some.run' c.next.new.self, c.items-items.ensures.value, c.items-items.ensures.limit)
+pub fold_run-held-requires : goal.fold_run-held-requires
+fold_run-held-requires g c = record {
+  width = c.WIDTH.ensures;
+  few = omega (arith, c.loop-run.invariant.counted, ap (λ rs. length (all_offsets rs)) c.in-Some.ensures.steps, length-first c.in-Some.run' c.next.new.self, c.items-items.ensures.value, c.items-items.ensures.limit);
+}
 
 pub overflow_add-seen : goal.overflow_add-seen
 overflow_add-seen g c =
@@ -51,7 +53,7 @@ overflow_add-seen g c =
 pub loop-run-preserved : goal.loop-run-preserved
 loop-run-preserved g c =
     let scalar = g.S.Number.scalar g.O.Ordered.order in
-    let bytes = c.args.lists.bytes.now in
+    let bytes = c.args.numbers.bytes.now in
     let run = c.in-Some.run' in
     let next = c.next.new.self in
     let steps = c.in-Some.ensures.steps in
@@ -69,8 +71,8 @@ loop-run-preserved g c =
 pub returns : goal.returns
 returns g c =
     let scalar = g.S.Number.scalar g.O.Ordered.order in
-    let bytes = c.args.lists.bytes.now in
-    let l = c.args.lists.starts.now in
+    let bytes = c.args.numbers.bytes.now in
+    let l = c.args.numbers.layout.now in
     let first = number_at scalar bytes l.offset in
     let rest = numbers_at scalar bytes (drop 1 (offsets l)) in
     let all : numbers_at scalar bytes (offsets l) ≡ first ∷ rest =

@@ -5,8 +5,8 @@ use Rattle.reductions.proofs.fills.push_along.Goals as goal
 
 pub loop-run-init : goal.loop-run-init
 loop-run-init g c =
-    let s = c.args.lists in
-    let l = s.starts.now in
+    let s = c.args.firsts in
+    let l = s.layout.now in
     let len = length s.bytes.now in
     let width = g.S.Number.WIDTH in
     let ens = c.new-run-items.ensures in
@@ -20,25 +20,27 @@ loop-run-init g c =
       room = let same = ap (λ n. n * g.F.Total.Number.WIDTH) many in omega (arith, same, c.requires.room);
       few = omega (arith, many, c.items-items.ensures.value, c.items-items.ensures.limit);
       starts = subst (All (λ run. EachWithin len run.offset run.step width run.count)) (sym are) (runs-within len width (λ run. run) (runs l) (ens.lie max_bytes 1 l.within_limit) ends);
-      lines = subst (All (λ offset. EachWithin len offset c.args.axis.stride width c.args.axis.len)) (sym all) c.requires.items.2;
+      lines =
+          subst (All (λ offset. EachWithin len offset c.args.axis.stride width c.args.axis.len)) (sym all)
+          (subst (λ w. All (λ offset. EachWithin len offset c.args.axis.stride w c.args.axis.len) (offsets l)) c.requires.width c.requires.items.2);
     }
 
 pub invariant_of-starts : goal.invariant_of-starts
 invariant_of-starts g c =
-    let s = c.args.lists in
+    let s = c.args.firsts in
     let len = length s.bytes.now in
     let run = c.in-Some.run' in
     let steps = c.in-Some.ensures.steps in
     let inv = c.loop-run.invariant in
     record {
       few = omega (arith, inv.few, ap (λ rs. length (all_offsets rs)) steps, length-first run c.next.new.self);
-      within = subst (λ w. EachWithin len run.offset run.step w run.count) (sym c.requires.width)
+      within = subst (λ w. EachWithin len run.offset run.step w run.count) (sym c.WIDTH.ensures)
           (All-head (λ r. EachWithin len r.offset r.step g.S.Number.WIDTH r.count) run c.next.new.self (subst (All (λ r. EachWithin len r.offset r.step g.S.Number.WIDTH r.count)) steps inv.starts));
     }
 
 pub invariant_of-push_lines : goal.invariant_of-push_lines
 invariant_of-push_lines g c =
-    let s = c.args.lists in
+    let s = c.args.firsts in
     let axis = c.args.axis in
     let len = length s.bytes.now in
     let run = c.in-Some.run' in
@@ -50,7 +52,7 @@ invariant_of-push_lines g c =
     record {
       few = c.requires.items.1;
       within = λ j low.
-          subst (λ w. EachWithin len (place run.offset run.step j) axis.stride w axis.len) (sym c.requires.width)
+          subst (λ w. EachWithin len (place run.offset run.step j) axis.stride w axis.len) (sym c.WIDTH.ensures)
           (subst (λ o. EachWithin len o axis.stride width axis.len) (place-at len width run j within low) (here j 0 (omega (arith, low, length-run_offsets run))));
     }
 
@@ -64,7 +66,7 @@ push_lines-requires-clause-room g c =
 
 pub loop-run-preserved : goal.loop-run-preserved
 loop-run-preserved g c =
-    let s = c.args.lists in
+    let s = c.args.firsts in
     let axis = c.args.axis in
     let bytes = s.bytes.now in
     let len = length bytes in
@@ -90,7 +92,7 @@ loop-run-preserved g c =
 
 pub returns : goal.returns
 returns g c =
-    let s = c.args.lists in
+    let s = c.args.firsts in
     c.loop-run.invariant.adds c.loop-run.block
     (subst (λ rs. AddsReduced g.F.Fold.reduction (g.S.Number.scalar g.O.Ordered.order) s.bytes.now g.F.Total.Number.WIDTH (lines c.args.axis (all_offsets rs)) c.loop-run.block c.loop-run.block) (sym c.in-None.ensures.steps.0)
     (adds_none g.F.Fold.reduction (g.S.Number.scalar g.O.Ordered.order) s.bytes.now g.F.Total.Number.WIDTH c.loop-run.block))

@@ -9,8 +9,8 @@ returns-in_default g c =
     let total = g.F.Total.Number.scalar Little in
     let width = g.F.Total.Number.WIDTH in
     let reduction = g.F.Fold.reduction in
-    let bytes = c.args.lists.bytes.now in
-    let l = c.args.lists.starts.now in
+    let bytes = c.args.firsts.bytes.now in
+    let l = c.args.firsts.layout.now in
     let numbers = numbers_at scalar bytes (offsets l) in
     let few : length numbers < 2 ^ 63 = omega (arith, length-map (offsets l) (number_at scalar bytes), length-offsets l, c.items-items.ensures.value, c.items-items.ensures.limit) in
     let z = g.F.Total.Number.value c.fold_all.result in
@@ -23,18 +23,18 @@ returns-in_default g c =
 pub finish-requires-2 : goal.finish-requires-2
 finish-requires-2 g c =
     let width = g.F.Total.Number.WIDTH in
-    let l = c.args.lists.starts.now in
+    let l = c.args.firsts.layout.now in
     let axis = c.in-Some.axis in
     let many : c.items-items.result ≡ length (lines axis (offsets l)) = c.items-items.ensures.value ∙ sym (length-map (offsets l) (λ offset. run_offsets (run_along axis offset)) ∙ length-offsets l) in
-    full g.F.Fold.reduction (g.S.Number.scalar g.O.Ordered.order) c.args.lists.bytes.now width (c.items-items.result * c.WIDTH-width.result) (lines axis (offsets l)) c.in_ok-block-2.block c.in_ok-full.full c.in_ok-block-2.ensures c.in_ok-full.ensures
+    full g.F.Fold.reduction (g.S.Number.scalar g.O.Ordered.order) c.args.firsts.bytes.now width (c.items-items.result * c.WIDTH-width.result) (lines axis (offsets l)) c.in_ok-block-2.block c.in_ok-full.full c.in_ok-block-2.ensures c.in_ok-full.ensures
     (λ i. many i * c.WIDTH-width.ensures i)
 
 pub returns : goal.returns
 returns g c =
     let scalar = g.S.Number.scalar g.O.Ordered.order in
     let width = g.F.Total.Number.WIDTH in
-    let bytes = c.args.lists.bytes.now in
-    let l = c.args.lists.starts.now in
+    let bytes = c.args.firsts.bytes.now in
+    let l = c.args.firsts.layout.now in
     let all = lines c.in-Some.axis (offsets l) in
     subst (λ axis. AreReduced g.F.Fold.reduction scalar bytes width (lists_from l axis) c.finish-2.result) (sym c.in-Some.is)
     (subst (AreReduced g.F.Fold.reduction scalar bytes width all) (sym c.finish-2.ensures)

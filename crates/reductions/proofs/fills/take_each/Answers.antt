@@ -23,5 +23,5 @@ loop-j-preserved g c =
       later = later_set j (length old) old c.loop-j.held c.step.result inv.later;
     }
 
-pub returns-clause-held : goal.returns-clause-held
-returns-clause-held g c j d low = c.loop-j.invariant.done j d (omega (arith, low, c.loop-j-test.false))
+pub returns : goal.returns
+returns g c = record { len = c.loop-j.invariant.len; held = λ j d low. c.loop-j.invariant.done j d (omega (arith, low, c.loop-j-test.false)) }

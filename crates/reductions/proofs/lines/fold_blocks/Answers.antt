@@ -15,8 +15,8 @@ loop-done-preserved g c =
     record {
       fits = omega (arith, counted, c.min.ensures, c.loop-done-test.true);
       takes = λ first before seen held.
-          subst (g.F.Fold.holds c.fold_side-held.result first) (append_assoc before numbers (numbers_of scalar block) ∙ ap (λ all. before ++ all) more)
-          (c.fold_side-held.ensures first (before ++ numbers) (omega (arith, seen, length-append before numbers, length-numbers scalar s.bytes.now (front done s.run))) (c.loop-done.invariant.takes first before seen held));
+          subst (g.F.Fold.holds c.visit-held.result first) (append_assoc before numbers (numbers_of scalar block) ∙ ap (λ all. before ++ all) more)
+          (c.visit-held.ensures first (before ++ numbers) (omega (arith, seen, length-append before numbers, length-numbers scalar s.bytes.now (front done s.run))) (c.loop-done.invariant.takes first before seen held));
     }
 
 pub returns-then-is_decided : goal.returns-then-is_decided

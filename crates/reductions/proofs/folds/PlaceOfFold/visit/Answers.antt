@@ -1,7 +1,7 @@
 use Rattle.std.proofs.Common.{◌≡◌, ◌-◌, min, ap, subst, ◌∙◌, arith, nat_eq, not}
 use Rattle.reductions.proofs.Words.{IsPart}
 use Rattle.reductions.proofs.SoughtLaws.{sought-next}
-use Rattle.reductions.proofs.folds.PlaceOfFold.fold_together.Goals as goal
+use Rattle.reductions.proofs.folds.PlaceOfFold.visit.Goals as goal
 
 pub loop-done-preserved : goal.loop-done-preserved
 loop-done-preserved g c =

@@ -1,6 +1,6 @@
 use Rattle.std.proofs.Common.{◌-◌, ◌≤◌, nat_eq, not}
 use Rattle.reductions.proofs.SoughtLaws.{AreSought}
-use Rattle.reductions.proofs.folds.PlaceOfFold.fold_together.Given as goal
+use Rattle.reductions.proofs.folds.PlaceOfFold.visit.Given as goal
 
 -- the first numbers are visited
 abbrev pub invariant-loop-done : goal.invariant-loop-done
