@@ -1,8 +1,22 @@
 -- Refusals, and the result otherwise.
-use Rattle.std.proofs.Common.{◌≡◌, ◌*◌, ◌<◌, ◌≤◌, ℕ, zero, suc, ℤ, true, false, Bool, Option, Some, None, List, [], ◌∷◌, map, drop, length, get_or, Ok, Err, refl, sym, ap, subst, ◌∙◌, arith, mul_comm, one-mul, nat_eq, Result, ◌&&◌, not, ◌==◌, slice_set, is_ok}
-use Rattle.reductions.proofs.Words.{Gives, Items, ne_eqb, range_with_len, insert, remove, flat_map, length-map, get_or-map, same_lists, take-take, length-map-range_with_len, get_or-map-range_with_len, Descr, Refusal, EmptyReduction, BadAxis, Scalar, IsNumber, size, decode, encode, number_of, number_size, ◌>>=◌, check, check_passed, shape_of-same, encode_item, number, item_from, one-encoded, item_at, joined, all_joined, joined_list, Layout, count, indexes, rank, length-indexes, offsets, multiples, offsets-none, shape_of, Red, ScalarDescr, wide_size, little_size, lists, reduced_shape, list_length, named_axis, is_axis, IsAxisOf, has_empty_list, number_scalar, reduced_type, outcome_of, IsReduction, result_scalar, needs_items, reduced, reduced_item, reduced_items, item_number, shape_after, number_at, numbers_at, AreReduced}
+use Rattle.std.proofs.Common.{◌≡◌, ◌*◌, ◌<◌, ◌≤◌, ℕ, zero, suc, ℤ, true, false, Bool, Option, Some, None, List, [], ◌∷◌, map, drop, length, get_or, Ok, Err, refl, sym, ap, subst, ◌∙◌, arith, mul_comm, mul-zero, one-mul, suc-mul, zero-mul, nat_eq, Result, ◌&&◌, ◌||◌, not, ◌==◌, slice_set, is_ok}
+use Rattle.reductions.proofs.Words.{Gives, Items, list_any, ne_eqb, range_with_len, insert, remove, flat_map, length-map, get_or-map, same_lists, take-take, length-map-range_with_len, get_or-map-range_with_len, Descr, Refusal, EmptyReduction, BadAxis, Scalar, IsNumber, size, decode, encode, number_of, number_size, ◌>>=◌, check, check_passed, shape_of-same, encode_item, number, item_from, one-encoded, item_at, joined, all_joined, joined_list, Layout, count, indexes, rank, length-indexes, offsets, multiples, offsets-none, shape_of, Red, ScalarDescr, wide_size, little_size, lists, reduced_shape, list_length, named_axis, is_axis, IsAxisOf, has_empty_list, number_scalar, reduced_type, outcome_of, IsReduction, result_scalar, needs_items, reduced, reduced_item, reduced_items, item_number, shape_after, number_at, numbers_at, AreReduced}
 
 -- ---- lengths
+
+product_zero : (m n : ℕ) → (nat_eq m 0 || nat_eq n 0) ≡ nat_eq (m * n) 0
+product_zero zero n = sym (ap (λ k. nat_eq k 0) (zero-mul n))
+product_zero (suc m) zero = let some : nat_eq (suc m) 0 ≡ false = ne_eqb (suc m) 0 (λ same. omega (arith, same)) in rw some (sym (ap (λ k. nat_eq k 0) (mul-zero (suc m))))
+product_zero (suc m) (suc n) =
+    let some : nat_eq (suc m) 0 ≡ false = ne_eqb (suc m) 0 (λ same. omega (arith, same)) in
+    let some' : nat_eq (suc n) 0 ≡ false = ne_eqb (suc n) 0 (λ same. omega (arith, same)) in
+    let product : nat_eq (suc m * suc n) 0 ≡ false = ne_eqb (suc m * suc n) 0 (λ same. omega (arith, same, suc-mul m (suc n))) in
+    rw (some, some') (sym product)
+
+-- axes have no items if one of the lengths is 0
+pub any_zero : (lengths : List ℕ) → list_any (λ n. nat_eq n 0) lengths ≡ nat_eq (count lengths) 0
+any_zero [] = refl
+any_zero (n ∷ lengths) = ap (λ b. nat_eq n 0 || b) (any_zero lengths) ∙ product_zero n (count lengths)
 
 pub after_empty : (reduction : Red) (shape : List ℕ) (axis : Option ℕ) (keep : Bool) → (needs_items reduction && has_empty_list shape axis (reduced_shape shape axis keep)) ≡ true → shape_after reduction shape axis keep ≡ Err EmptyReduction
 unfolding shape_after

@@ -1,7 +1,7 @@
 //! All that depends on the reduction: the type of its result, whether it needs items, its result
 //! without items, and the loop that computes it.
 ghost use Rattle.std.specs.Prelude.{IfOk, [], length, true, ℕ, ◌*◌, ◌<◌, ◌≡◌, ◌≤◌};
-ghost use Rattle.reductions.specs.Clauses.{needs_items, result_scalar, wide, Little, item_at, max_items, size, AreReduced, HaveItems, IsReduced, IsStored, lists_from, depends_on_order};
+ghost use Rattle.reductions.specs.Clauses.{needs_items, result_scalar, wide, Little, Scalar, item_at, max_items, size, AreReduced, HaveItems, IsReduced, IsStored, lists_from, depends_on_order};
 
 use crate::fills::reduced;
 use crate::folds::{Best, PlaceOf, Truth, Wrapping};
@@ -66,15 +66,15 @@ fn repeated<T: Number>(alloc: Global, total: T, count: usize) -> Result<RawBlock
 pub(crate) fn empty_block(
     alloc: Global,
     reduction: Red,
-    _scalar: &Scalar,
     count: usize,
 ) -> Result<RawBlock, AllocError>
     requires few { count ≤ max_items }
     requires none { needs_items reduction ≡ true → count ≡ 0 }
-    ensures items { IfOk result (λ b. (k : ℕ) → k < count → IsReduced reduction _scalar.now []
-        (item_at (k * size (result_scalar reduction _scalar.now))
-        (size (result_scalar reduction _scalar.now)) b)) }
-    ensures len { IfOk result (λ b. length b ≡ count * size (result_scalar reduction _scalar.now)) }
+    ensures items { IfOk result (λ b. (scalar : Scalar) (k : ℕ) → k < count
+        → IsReduced reduction scalar [] (item_at (k * size (result_scalar reduction scalar))
+        (size (result_scalar reduction scalar)) b)) }
+    ensures len { IfOk result (λ b. (scalar : Scalar)
+        → length b ≡ count * size (result_scalar reduction scalar)) }
 {
     match reduction {
         Red::Sum => repeated(alloc, 0_u64, count),

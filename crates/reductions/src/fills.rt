@@ -1,7 +1,7 @@
 //! Reduces all numbers of a layout, or the lines along an axis that start at each of them: one line
 //! after another, or all lines at once, row by row.
 ghost use Rattle.std.specs.Prelude.{◌≡◌, ◌+◌, ◌*◌, ◌<◌, ◌≤◌, [], ◌∷◌, length, IfOk, Some};
-ghost use Rattle.reductions.specs.Clauses.{Little, number_of_side, count, offsets, run_offsets, number_at, numbers_at, size, lines, lists_from, HaveTakenRow, IsPushed, AreReduced, AddsReduced, HaveItems, all_lines, line_run, AreHeld, EachOf};
+ghost use Rattle.reductions.specs.Clauses.{Little, number_of_side, count, offsets, run_offsets, numbers_at, size, lines, lists_from, HaveTakenRow, IsPushed, AreReduced, AddsReduced, HaveItems, all_lines, line_run, AreHeld, EachOf};
 
 use crate::folds::Fold;
 use crate::lines::{Lines, Numbers, fold_line, fold_run};
@@ -9,14 +9,6 @@ use machine_numbers::{LowFirst, Number, Ordered, Side};
 use raw_block::{BlockBuilder, RawBlock};
 use shape_strides::{Runs, StridedAxis};
 use std::alloc::{AllocError, Global};
-
-/// The number at an offset.
-fn number_at<S: Number, O: Ordered>(bytes: &[u8], at: usize) -> S
-    requires { at + S.WIDTH ≤ length bytes.now }
-    ensures { S.value result ≡ number_at (S.scalar O.order) bytes.now at }
-{
-    S::read::<O>(&bytes[at..at + S::WIDTH])
-}
 
 /// The result for all numbers of a layout.
 fn fold_all<S: Number, O: Ordered, F: Fold<S>>(numbers: Numbers<'_>) -> F::Total
@@ -28,7 +20,8 @@ fn fold_all<S: Number, O: Ordered, F: Fold<S>>(numbers: Numbers<'_>) -> F::Total
 {
     // For the prover alone: the number of items is within the limit.
     let _items = numbers.layout.shape.items();
-    let mut held = F::start(number_at::<S, O>(numbers.bytes, numbers.layout.offset));
+    let at = numbers.layout.offset;
+    let mut held = F::start(S::read::<O>(&numbers.bytes[at..at + S::WIDTH]));
     let mut seen = 0;
     for run in Runs::new(numbers.layout) {
         let side = Side {

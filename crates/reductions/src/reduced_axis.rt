@@ -84,25 +84,13 @@ pub(crate) fn list_length(shape: &Shape, axis: Option<usize>) -> usize
     }
 }
 
-/// Whether axes of these lengths have items.
-fn have_items(lengths: &[usize]) -> bool
-    ensures { result ≡ not (count lengths.now == 0) }
-{
-    for len in lengths {
-        if *len == 0 {
-            return false;
-        }
-    }
-    true
-}
-
 /// Whether some item of the result would be the reduction of no items, although the reduction needs
 /// some.
 fn lacks_items(reduction: Red, shape: &Shape, axis: Option<usize>, lengths: &[usize]) -> bool
     requires { IsAxisOf (length shape.now) axis }
     ensures { result ≡ (needs_items reduction && has_empty_list shape.now axis lengths.now) }
 {
-    needs_items(reduction) && list_length(shape, axis) == 0 && have_items(lengths)
+    needs_items(reduction) && list_length(shape, axis) == 0 && !lengths.contains(&0)
 }
 
 /// The shape of the result.

@@ -92,7 +92,7 @@ fn reduced_block(
         (AreResults reduction numbers.entry (lists_of numbers.entry axis)) }
 {
     if list_length(&numbers.layout.shape, axis) == 0 {
-        let block = empty_block(alloc, reduction, numbers.scalar, items)?;
+        let block = empty_block(alloc, reduction, items)?;
         return Ok(block);
     }
     let Some(axis) = axis else {

@@ -1,10 +1,16 @@
-use Rattle.std.proofs.Common.{◌≡◌, ◌+◌, ◌≤◌, ℤ, List, [], ◌∷◌, ◌++◌, All, length, drop, refl, sym, ap, subst, ◌∙◌, arith, append_assoc, append-nil, length-append}
-use Rattle.reductions.proofs.Words.{map-append, All-head, All-rest, EachWithin, runs-within, max_bytes, offsets, length-offsets, entry-first, all_offsets, run_offsets, runs, length-first, number_at, numbers_at}
+use Rattle.std.proofs.Common.{◌≡◌, ◌+◌, ◌-◌, ◌≤◌, ℤ, List, [], ◌∷◌, ◌++◌, All, length, take, drop, refl, sym, ap, subst, ◌∙◌, arith, append_assoc, append-nil, length-append}
+use Rattle.reductions.proofs.Words.{map-append, All-head, All-rest, EachWithin, decode, number_of, size, runs-within, max_bytes, offsets, length-offsets, entry-first, all_offsets, run_offsets, runs, length-first, number_at, numbers_at}
 use Rattle.reductions.proofs.LineLaws.{headed, length-numbers}
 use Rattle.reductions.proofs.fills.fold_all.Goals as goal
 
-pub number_at-requires : goal.number_at-requires
-number_at-requires g c =
+pub overflow_add-at : goal.overflow_add-at
+overflow_add-at g c =
+    let l = c.args.numbers.layout.now in
+    let first = c.args.numbers.inside 0 0 (omega (arith, length-offsets l, c.requires.some)) in
+    record { fits = omega (arith, first, entry-first l c.requires.some, c.requires.width) }
+
+pub slice_bounds-read-end : goal.slice_bounds-read-end
+slice_bounds-read-end g c =
     let l = c.args.numbers.layout.now in
     let first = c.args.numbers.inside 0 0 (omega (arith, length-offsets l, c.requires.some)) in
     omega (arith, first, entry-first l c.requires.some, c.requires.width)
@@ -19,13 +25,15 @@ loop-run-init g c =
     let ens = c.new-run-items.ensures in
     let are = c.into_iter-run-iterator.ensures.into_iter_gives ∙ ens.runs in
     let all : all_offsets c.into_iter-run-iterator.result ≡ offsets l = ap all_offsets are ∙ ens.offsets in
+    let wide : l.offset + c.WIDTH.result - l.offset ≡ size scalar = omega (arith, c.WIDTH.ensures, g.met.S.Number.has_width g.O.Ordered.order) in
+    let is : g.S.Number.value c.read.result ≡ number_at scalar s.bytes.now l.offset = sym (ap number_of c.read.ensures) ∙ ap (λ w. number_of (decode scalar (take w (drop l.offset s.bytes.now)))) wide in
     let ends = subst (All (λ offset. offset + width ≤ len)) (sym ens.offsets) (subst (λ w. All (λ offset. offset + w ≤ len) (offsets l)) c.requires.width s.inside) in
     record {
       counted = omega (arith, ap length all, length-offsets l);
       within = subst (All (λ run. EachWithin len run.offset run.step width run.count)) (sym are) (runs-within len width (λ run. run) (runs l) (ens.lie max_bytes 1 l.within_limit) ends);
       takes = λ end takes.
           subst (λ os. g.F.Fold.holds end (number_at scalar s.bytes.now l.offset) (numbers_at scalar s.bytes.now os)) all
-          (takes (number_at scalar s.bytes.now l.offset) [] refl (subst (λ z. g.F.Fold.holds c.start-held.result z []) c.number_at.ensures c.start-held.ensures));
+          (takes (number_at scalar s.bytes.now l.offset) [] refl (subst (λ z. g.F.Fold.holds c.start-held.result z []) is c.start-held.ensures));
     }
 
 pub invariant_of-side : goal.invariant_of-side
@@ -36,13 +44,13 @@ invariant_of-side g c =
     let limit = c.items-items.ensures in
     record {
       few = omega (arith, c.loop-run.invariant.counted, ap (λ rs. length (all_offsets rs)) steps, length-first run c.next.new.self, limit.value, limit.limit);
-      within = subst (λ w. EachWithin len run.offset run.step w run.count) (sym c.WIDTH.ensures)
+      within = subst (λ w. EachWithin len run.offset run.step w run.count) (sym c.WIDTH-in-loop-run.ensures)
           (All-head (λ r. EachWithin len r.offset r.step g.S.Number.WIDTH r.count) run c.next.new.self (subst (All (λ r. EachWithin len r.offset r.step g.S.Number.WIDTH r.count)) steps c.loop-run.invariant.within));
     }
 
 pub fold_run-held-requires : goal.fold_run-held-requires
 fold_run-held-requires g c = record {
-  width = c.WIDTH.ensures;
+  width = c.WIDTH-in-loop-run.ensures;
   few = omega (arith, c.loop-run.invariant.counted, ap (λ rs. length (all_offsets rs)) c.in-Some.ensures.steps, length-first c.in-Some.run' c.next.new.self, c.items-items.ensures.value, c.items-items.ensures.limit);
 }
 

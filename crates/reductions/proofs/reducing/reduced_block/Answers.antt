@@ -10,11 +10,11 @@ returns-then-list_length-eq0 c =
     let n = c.args.numbers in
     let width = size (result_scalar c.args.reduction n.scalar.now) in
     record {
-      len = c.in_ok-block.ensures.len ∙ ap (λ count. count * width) c.requires.items;
+      len = c.in_ok-block.ensures.len n.scalar.now ∙ ap (λ count. count * width) c.requires.items;
       each = λ k low.
           subst (λ list. IsReduced c.args.reduction n.scalar.now (numbers_at n.scalar.now n.bytes.now list) (item_at (k * width) width c.in_ok-block.block))
           (sym (no_items n.layout.now c.args.axis k (sym c.list_length.ensures ∙ c.if-list_length-eq0.true) low))
-          (c.in_ok-block.ensures.items k (omega (arith, low, c.requires.items)));
+          (c.in_ok-block.ensures.items n.scalar.now k (omega (arith, low, c.requires.items)));
     }
 
 -- the axis is one of the layout's, and has items
