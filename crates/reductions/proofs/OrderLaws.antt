@@ -1,6 +1,6 @@
 -- Reductions that do not depend on the order of the numbers.
 use Rattle.std.proofs.Common.{◌≡◌, cond, ◌*◌, ◌<◌, ℕ, zero, suc, ℤ, pos, negsuc, ◌+ℤ◌, ◌*ℤ◌, Bool, true, false, not, ◌&&◌, ◌||◌, List, [], ◌∷◌, length, get_or, set, refl, sym, ap, subst, ◌∙◌, arith}
-use Rattle.reductions.proofs.Words.{int_min, int_max, fold, list_any, list_all, IsPermutation, neg_ℤ, *ℤ_comm, zero-*ℤ, negsuc-*ℤ-pos, negsuc-*ℤ-negsuc, pos-*ℤ-negsuc, neg_ℤ-neg_ℤ, ints, clamps, swap_is, get_or_default, IsPermutation-keeps, IsPermutation-map, IsPermutation-sym, Contains-permutation, length_permutation, list_any-IsPermutation, false≢true, Scalar, wrap, Red, Sum, Product, Minimum, Maximum, Any, ArgMin, ArgMax, item_at, AllOf, AreReduced, IsReduced, IsStored, number_at, numbers_at, reduced, result_scalar, least, greatest, is_true, depends_on_order}
+use Rattle.reductions.proofs.Words.{better, best_of, best_from, fold, list_any, list_all, IsPermutation, neg_ℤ, *ℤ_comm, zero-*ℤ, negsuc-*ℤ-pos, negsuc-*ℤ-negsuc, pos-*ℤ-negsuc, neg_ℤ-neg_ℤ, ints, clamps, swap_is, get_or_default, IsPermutation-keeps, IsPermutation-map, IsPermutation-sym, Contains-permutation, length_permutation, list_any-IsPermutation, false≢true, Scalar, wrap, Red, Sum, Product, Minimum, Maximum, Any, ArgMin, ArgMax, item_at, AllOf, AreReduced, IsReduced, IsStored, number_at, numbers_at, reduced, result_scalar, is_true, depends_on_order}
 use Rattle.reductions.proofs.RowLaws.{swapped}
 
 -- ---- an operation that takes any two numbers in either order
@@ -42,15 +42,11 @@ module _ (op : ℤ → ℤ → ℤ) (turns : (z x y : ℤ) → op (op z x) y ≡
     from_any l j k d in_j in_k =
         sym (taken l k (get_or l j d) d in_k) ∙ ap (λ y. fold op y l) (either (get_or l j d) (get_or l k d)) ∙ taken l j (get_or l k d) d in_j
 
-    first-reordered : (x y : ℤ) (xs ys : List ℤ) → op x x ≡ x → op y y ≡ y → IsPermutation (x ∷ xs) (y ∷ ys) → fold op y ys ≡ fold op x xs
-    first-reordered x y xs ys same_x same_y same =
+    first-reordered : (x y : ℤ) (xs ys : List ℤ) → IsPermutation (x ∷ xs) (y ∷ ys) → fold op y (y ∷ ys) ≡ fold op x (x ∷ xs)
+    first-reordered x y xs ys same =
         let there = Contains-permutation (y ∷ ys) (x ∷ xs) y (IsPermutation-sym (x ∷ xs) (y ∷ ys) same) (0, omega arith, refl) in
         let at : get_or (x ∷ xs) there.0 (pos 0) ≡ y = get_or_default (x ∷ xs) there.0 (pos 0) y there.1 ∙ there.2 in
-        ap (λ z. fold op z ys) (sym same_y)
-        ∙ fold-reordered y (x ∷ xs) (y ∷ ys) same
-        ∙ ap (λ z. fold op z (x ∷ xs)) (sym at)
-        ∙ from_any (x ∷ xs) there.0 0 (pos 0) there.1 (omega arith)
-        ∙ ap (λ z. fold op z xs) same_x
+        fold-reordered y (x ∷ xs) (y ∷ ys) same ∙ ap (λ z. fold op z (x ∷ xs)) (sym at) ∙ from_any (x ∷ xs) there.0 0 (pos 0) there.1 (omega arith)
 
 -- ---- each reduction
 
@@ -86,41 +82,24 @@ product_turns (negsuc a) x y =
     ap (λ m. m *ℤ y) (neg-left (pos (suc a)) x) ∙ neg-left (pos (suc a) *ℤ x) y ∙ ap neg_ℤ (one_up (suc a) x y)
     ∙ sym (ap (λ m. m *ℤ x) (neg-left (pos (suc a)) y) ∙ neg-left (pos (suc a) *ℤ y) x)
 
-min_turns : (z x y : ℤ) → int_min (int_min z x) y ≡ int_min (int_min z y) x
-min_turns z x y = omega (arith, ints, clamps)
+better_turns : (greatest : Bool) (z x y : ℤ) → better greatest (better greatest z x) y ≡ better greatest (better greatest z y) x
+better_turns false z x y = omega (arith, ints, clamps)
+better_turns true z x y = omega (arith, ints, clamps)
 
-max_turns : (z x y : ℤ) → int_max (int_max z x) y ≡ int_max (int_max z y) x
-max_turns z x y = omega (arith, ints, clamps)
+better_once : (greatest : Bool) (z x : ℤ) → better greatest (better greatest z x) x ≡ better greatest z x
+better_once false z x = omega (arith, ints, clamps)
+better_once true z x = omega (arith, ints, clamps)
 
-min_once : (z x : ℤ) → int_min (int_min z x) x ≡ int_min z x
-min_once z x = omega (arith, ints, clamps)
+better_either : (greatest : Bool) (x y : ℤ) → better greatest x y ≡ better greatest y x
+better_either false x y = omega (arith, ints, clamps)
+better_either true x y = omega (arith, ints, clamps)
 
-max_once : (z x : ℤ) → int_max (int_max z x) x ≡ int_max z x
-max_once z x = omega (arith, ints, clamps)
-
-min_either : (x y : ℤ) → int_min x y ≡ int_min y x
-min_either x y = omega (arith, ints, clamps)
-
-max_either : (x y : ℤ) → int_max x y ≡ int_max y x
-max_either x y = omega (arith, ints, clamps)
-
-min_same : (x : ℤ) → int_min x x ≡ x
-min_same x = omega (arith, ints, clamps)
-
-max_same : (x : ℤ) → int_max x x ≡ x
-max_same x = omega (arith, ints, clamps)
-
-least-reordered : (xs ys : List ℤ) → IsPermutation xs ys → least ys ≡ least xs
-least-reordered [] [] same = refl
-least-reordered [] (y ∷ ys) same = absurd (omega (arith, length_permutation [] (y ∷ ys) same))
-least-reordered (x ∷ xs) [] same = absurd (omega (arith, length_permutation (x ∷ xs) [] same))
-least-reordered (x ∷ xs) (y ∷ ys) same = first-reordered int_min min_turns min_once min_either x y xs ys (min_same x) (min_same y) same
-
-greatest-reordered : (xs ys : List ℤ) → IsPermutation xs ys → greatest ys ≡ greatest xs
-greatest-reordered [] [] same = refl
-greatest-reordered [] (y ∷ ys) same = absurd (omega (arith, length_permutation [] (y ∷ ys) same))
-greatest-reordered (x ∷ xs) [] same = absurd (omega (arith, length_permutation (x ∷ xs) [] same))
-greatest-reordered (x ∷ xs) (y ∷ ys) same = first-reordered int_max max_turns max_once max_either x y xs ys (max_same x) (max_same y) same
+best-reordered : (greatest : Bool) (xs ys : List ℤ) → IsPermutation xs ys → best_of greatest ys ≡ best_of greatest xs
+best-reordered greatest [] [] same = refl
+best-reordered greatest [] (y ∷ ys) same = absurd (omega (arith, length_permutation [] (y ∷ ys) same))
+best-reordered greatest (x ∷ xs) [] same = absurd (omega (arith, length_permutation (x ∷ xs) [] same))
+best-reordered greatest (x ∷ xs) (y ∷ ys) same =
+    sym (best_from greatest y ys) ∙ first-reordered (better greatest) (better_turns greatest) (better_once greatest) (better_either greatest) x y xs ys same ∙ best_from greatest x xs
 
 all_is : (p : ℤ → Bool) (l : List ℤ) → list_all p l ≡ not (list_any (λ z. not (p z)) l)
 all_is p [] = refl
@@ -133,8 +112,8 @@ all_is p (x ∷ l) = ap (λ b. p x && b) (all_is p l) ∙ turned (p x) (list_any
 pub reduced-reordered : (reduction : Red) (scalar : Scalar) (xs ys : List ℤ) → depends_on_order reduction ≡ false → IsPermutation xs ys → reduced reduction scalar ys ≡ reduced reduction scalar xs
 reduced-reordered Sum scalar xs ys free same = ap (wrap scalar) (fold-reordered (λ sum value. sum +ℤ value) swapped (pos 0) xs ys same)
 reduced-reordered Product scalar xs ys free same = ap (wrap scalar) (fold-reordered (λ product value. product *ℤ value) product_turns (pos 1) xs ys same)
-reduced-reordered Minimum scalar xs ys free same = least-reordered xs ys same
-reduced-reordered Maximum scalar xs ys free same = greatest-reordered xs ys same
+reduced-reordered Minimum scalar xs ys free same = best-reordered false xs ys same
+reduced-reordered Maximum scalar xs ys free same = best-reordered true xs ys same
 reduced-reordered Any scalar xs ys free same = ap (λ b. cond b (pos 1) (pos 0)) (sym (list_any-IsPermutation is_true xs ys same))
 reduced-reordered AllOf scalar xs ys free same =
     ap (λ b. cond b (pos 1) (pos 0)) (all_is is_true ys ∙ ap not (sym (list_any-IsPermutation (λ z. not (is_true z)) xs ys same)) ∙ sym (all_is is_true xs))

@@ -1,5 +1,5 @@
 -- Refusals, and the result otherwise.
-use Rattle.std.proofs.Common.{◌≡◌, ◌*◌, ◌<◌, ◌≤◌, ℕ, zero, suc, ℤ, true, false, Bool, Option, Some, None, List, [], ◌∷◌, map, drop, length, get_or, Ok, Err, refl, sym, ap, subst, ◌∙◌, arith, mul_comm, mul-zero, one-mul, suc-mul, zero-mul, nat_eq, Result, ◌&&◌, ◌||◌, not, ◌==◌, slice_set, is_ok}
+use Rattle.std.proofs.Common.{◌≡◌, ◌*◌, ◌<◌, ◌≤◌, ℕ, zero, suc, ℤ, true, false, Bool, Option, Some, None, List, [], ◌∷◌, map, drop, length, get_or, Ok, Err, refl, sym, ap, subst, ◌∙◌, arith, mul_comm, mul-zero, one-mul, suc-mul, zero-mul, nat_eq, ◌&&◌, ◌||◌, not, ◌==◌, slice_set, is_ok}
 use Rattle.reductions.proofs.Words.{Gives, Items, list_any, ne_eqb, range_with_len, insert, remove, flat_map, length-map, get_or-map, same_lists, take-take, length-map-range_with_len, get_or-map-range_with_len, Descr, Refusal, EmptyReduction, BadAxis, Scalar, IsNumber, size, decode, encode, number_of, number_size, ◌>>=◌, check, check_passed, shape_of-same, encode_item, number, item_from, one-encoded, item_at, joined, all_joined, joined_list, Layout, count, indexes, rank, length-indexes, offsets, multiples, offsets-none, shape_of, Red, ScalarDescr, wide_size, little_size, lists, reduced_shape, list_length, named_axis, is_axis, IsAxisOf, has_empty_list, number_scalar, reduced_type, outcome_of, IsReduction, result_scalar, needs_items, reduced, reduced_item, reduced_items, item_number, shape_after, number_at, numbers_at, AreReduced}
 
 -- ---- lengths

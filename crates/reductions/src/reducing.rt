@@ -58,20 +58,17 @@ fn reduced_all(alloc: Global, reduction: Red, numbers: Numbers<'_>) -> Result<Ra
     ensures { IfOk result
         (AreResults reduction numbers.entry (lists_of numbers.entry None)) }
 {
-    if depends_on_order(reduction) {
-        return reduced_from(alloc, reduction, numbers, None);
-    }
-    match in_memory_order(alloc, numbers.layout, numbers.layout) {
-        Some(pair) => {
+    if !depends_on_order(reduction) {
+        if let Some(pair) = in_memory_order(alloc, numbers.layout, numbers.layout) {
             let near = Numbers {
                 bytes: numbers.bytes,
                 layout: &pair.target,
                 scalar: numbers.scalar,
             };
-            reduced_from(alloc, reduction, near, None)
+            return reduced_from(alloc, reduction, near, None);
         }
-        None => reduced_from(alloc, reduction, numbers, None),
     }
+    reduced_from(alloc, reduction, numbers, None)
 }
 
 /// A block with the reduction of each list.

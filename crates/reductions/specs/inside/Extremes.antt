@@ -85,12 +85,9 @@ place_size true scalar = refl
 
 -- ---- results, which are little-endian
 
-kept_is : (scalar kept : Scalar) (bytes : List ℕ) (z : ℤ) → little scalar ≡ kept → IsStored kept z bytes → IsStored (little scalar) z bytes
-kept_is scalar kept bytes z same is = subst (λ s. IsStored s z bytes) (sym same) is
-
 pub best_is : (greatest : Bool) (scalar kept : Scalar) (bytes : List ℕ) (numbers : List ℤ) → little scalar ≡ kept → IsStored kept (best_of greatest numbers) bytes → IsReduced (reduction_of greatest) scalar numbers bytes
-best_is false scalar kept bytes numbers same is = kept_is scalar kept bytes (least numbers) same is
-best_is true scalar kept bytes numbers same is = kept_is scalar kept bytes (greatest numbers) same is
+best_is false scalar kept bytes numbers same is = subst (λ s. IsStored s (least numbers) bytes) (sym same) is
+best_is true scalar kept bytes numbers same is = subst (λ s. IsStored s (greatest numbers) bytes) (sym same) is
 
 pub best_size : (greatest : Bool) (scalar : Scalar) (width : ℕ) → size scalar ≡ width → size (result_scalar (reduction_of greatest) scalar) ≡ width
 best_size false scalar width is = little_size scalar ∙ is

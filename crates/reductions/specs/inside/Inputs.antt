@@ -1,5 +1,5 @@
 -- The numbers to reduce, the lists that they form, and the results.
-use Rattle.std.specs.Prelude.{◌≡◌, ◌+◌, ◌^◌, ◌<◌, ◌≤◌, ℕ, Option, Some, None, List, length, All}
+use Rattle.std.specs.Prelude.{◌≡◌, ◌^◌, ◌<◌, ◌≤◌, ℕ, Option, Some, None, List, length, All}
 use Rattle.reductions.specs.Words.{remove, size, EachWithin, count, offsets, Layout, StridedAxis, Red}
 use Rattle.reductions.specs.Lists.{lists}
 use Rattle.reductions.specs.Reductions.{result_scalar}

@@ -15,9 +15,9 @@ invariant_of-near c =
     let n = c.args.numbers in
     record { inside = All-permutation (λ offset. offset + size n.scalar.now ≤ length n.bytes.now) (offsets n.layout.now) (offsets c.in-Some.pair.target) (same (goal.at.invariant_of-near c).In-Some) n.inside }
 
-pub reduced_from-requires-in-Some-clause-items : goal.reduced_from-requires-in-Some-clause-items
-reduced_from-requires-in-Some-clause-items c =
-    omega (arith, c.requires.some, length_permutation (offsets c.args.numbers.layout.now) (offsets c.in-Some.pair.target) (same (goal.at.reduced_from-requires-in-Some-clause-items c).In-Some), length-offsets c.args.numbers.layout.now, length-offsets c.in-Some.pair.target)
+pub reduced_from-requires-clause-items : goal.reduced_from-requires-clause-items
+reduced_from-requires-clause-items c =
+    omega (arith, c.requires.some, length_permutation (offsets c.args.numbers.layout.now) (offsets c.in-Some.pair.target) (same (goal.at.reduced_from-requires-clause-items c).In-Some), length-offsets c.args.numbers.layout.now, length-offsets c.in-Some.pair.target)
 
 if_ok : {A E : Type 0} (P Q : A → Type 0) → ((a : A) → P a → Q a) → (r : Result A E) → IfOk r P → IfOk r Q
 if_ok P Q then (Ok a) holds = then a holds
@@ -30,5 +30,5 @@ returns-in-Some c =
     let os = offsets n.layout.now in
     let os' = offsets c.in-Some.pair.target in
     if_ok (AreReduced c.args.reduction n.scalar.now n.bytes.now width (os' ∷ [])) (AreReduced c.args.reduction n.scalar.now n.bytes.now width (os ∷ []))
-    (λ out are. results-reordered c.args.reduction n.scalar.now n.bytes.now os os' out width (sym c.depends_on_order.ensures ∙ c.if-depends_on_order.false) (same (goal.at.returns-in-Some c).In-Some) are)
-    c.reduced_from-in-Some.result c.reduced_from-in-Some.ensures
+    (λ out are. results-reordered c.args.reduction n.scalar.now n.bytes.now os os' out width (sym c.depends_on_order.ensures ∙ c.if-not-depends_on_order.true) (same (goal.at.returns-in-Some c).In-Some) are)
+    c.reduced_from.result c.reduced_from.ensures
