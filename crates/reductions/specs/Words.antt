@@ -43,7 +43,6 @@ pub use Rattle.shape_strides.specs.LayoutLaws.{entry-first, length-offsets, offs
 pub use Rattle.shape_strides.specs.Layouts.{address, multiples}
 unfoldable pub use Rattle.shape_strides.specs.Layouts.{offsets}
 pub use Rattle.shape_strides.specs.Limits.{max_bytes, max_items}
-pub use Rattle.shape_strides.specs.PermutationLaws.{zero-count}
 pub use Rattle.shape_strides.specs.RunPairs.{all_offsets}
 pub use Rattle.shape_strides.specs.Runs.{run_along, run_offsets}
 unfoldable pub use Rattle.shape_strides.specs.Runs.{runs}
