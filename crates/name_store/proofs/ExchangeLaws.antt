@@ -90,6 +90,8 @@ module _ (width : ℕ) (block os : List ℕ) (within : All (λ o. o + width ≤ 
   pub replaced-old : (o : OldItems) → o.width ≡ width → o.block ≡ block → AreOld width block os o
   replaced-old o width-is block-is = record {
     size = width-is;
-    whole = ap length block-is ∙ all.whole ∙ ap (λ n. length os * n) (sym width-is);
-    bytes = (λ i. items_at (multiples (width-is i) (length os)) (width-is i) (block-is i)) ∙ ap (λ from. items_at from width block) (sym to-run);
+    packed = record {
+      long = ap length block-is ∙ all.whole ∙ ap (λ n. length os * n) (sym width-is);
+      items = (λ i. items_at (multiples (width-is i) (length os)) (width-is i) (block-is i)) ∙ ap (λ from. items_at from width block) (sym to-run);
+    };
   }

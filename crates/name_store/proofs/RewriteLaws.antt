@@ -1,6 +1,6 @@
 -- Items that are written to a slot that was borrowed.
 use Rattle.std.proofs.Common.{◌≡◌, ◌+◌, ◌*◌, ◌≤◌, ◌<◌, ℕ, zero, suc, true, false, List, [], ◌∷◌, length, refl, sym, ap, subst, ◌∙◌, cond, Option, Some, nat_eq, get_or, slice_set, All, Result, Ok, Err, IfOk, IfErr, None}
-use Rattle.name_store.proofs.Words.{AllByRecursion, option_map, eqb-true, recursion_from_All, same_Some, item_size, items_at, Layout, multiples, offsets, Fits, offsets_within, Owned, users_of, users_at, target_offsets, slot_at, Slot, Home, Source, One, Block, Target, IsPacked, HasNew, stand, AreSame, AreItems, CanPut, CanWrite, Puts, block_from, parts_of, with_source, without_slot}
+use Rattle.name_store.proofs.Words.{AllByRecursion, ArePaired, option_map, eqb-true, recursion_from_All, same_Some, item_size, items_at, Layout, multiples, offsets, Fits, offsets_within, Owned, users_of, users_at, target_offsets, slot_at, Slot, Home, Source, One, Block, Target, IsPacked, HasNew, stand, AreSame, AreItems, CanPut, CanWrite, Puts, block_from, parts_of, with_source, without_slot}
 use Rattle.name_store.specs.declared.write.Source.TheVariants.{Buffer}
 use Rattle.name_store.proofs.LaidLaws.{offsets-within}
 use Rattle.name_store.proofs.RestoreLaws.{length-with}
@@ -75,6 +75,9 @@ module _ (others : List (Option Slot)) (width : ℕ) (block : List ℕ) (n numbe
 
   pub lent-within : All (λ offset. offset + width ≤ length (block_from o block)) (offsets from)
   lent-within = offsets_within from (length (block_from o block)) width lent-fits
+
+  pub lent-paired : (os : List ℕ) → All (λ offset. offset + width ≤ length block) os → length os ≡ n → ArePaired os (offsets from) width (block_from o block) block
+  lent-paired os inside many = record { to_in = inside; from_in = lent-within; count = are.2 ∙ sym many }
 
   pub lent-parts : items_at (offsets from) width (block_from o block) ≡ parts_of others width block n (Buffer number from)
   lent-parts = ap (λ o. items_at (offsets from) width (block_from o block)) (sym there)

@@ -13,7 +13,7 @@ pub use Rattle.name_store.specs.States.{Array, BenchValue, Buffer, State, start}
 pub use Rattle.name_store.specs.Targets.{FitsBuffer, IsAim, LeadsTo, MayWrite, Supplies, target_offsets}
 pub use Rattle.name_store.specs.View.{array_at, bench_value, buffer_in, named_array, present, slot_at, state_of}
 pub use Rattle.name_store.specs.Views.{IsLaidOut, IsViewIn, MayBind}
-pub use Rattle.name_store.specs.Words.{All-firsts, AllByRecursion, AreAlike, AreInOrder, AreInOrder-append, AreInOrder-earlier, AreInOrder-within, AreNamedWithin, Big, Byte, Contains, Descr, EachWithin, Field, Fields, FinMap, Fits, Four, InOrder, InOrder-within, Int, IsIndex, IsNested, IsPermutation, Layout, LayoutPair, Leaf, LeafValue, Little, Owned, RecordDescr, Ring, Run, ScalarDescr, Two, address, blocks, buffer, bytes_eq, count, decode, decode_item, depth, distance, empty, field_at, fields, fields_of, filled, filled-reordered, filled-run, firsts-reordered, fits-offsets, from_entries, get, get_or-put_after, get_or-put_before, indexes, insert_entry, is_c_contiguous, item_at, item_at-put_same, item_from, item_of_joined, item_pairs, item_size, items_at, items_in, joined, keep_last, last_item, leaf_count, leaf_value, leaves_from, leaves_from-in_order, leaves_from-moved, leaves_in, leaves_in_order, leaves_of, legal_size, length-item_at, length-joined, length-leaves_from, length-offsets, length-put, list_any, max_bytes, move_index, moved_leaf, mul-step, mul_comm, multiples, nat_cmp, natural, nested-reordered, no_field, no_more, number, offsets_of, offsets_within, option_map, option_map_or, pair_even, places_of, put, put_each, put_each-append, range_with_len, record_field, retain_keys, run-within, run_offsets, runs, runs-within, scalar_field, shift_remove_entry, size, some_depth, some_leaves, spare, take_front, with_items}
+pub use Rattle.name_store.specs.Words.{All-firsts, AllByRecursion, AreAlike, ArePaired, AreInOrder, AreInOrder-append, AreInOrder-earlier, AreInOrder-within, AreNamedWithin, Big, Byte, Contains, Descr, EachWithin, Field, Fields, FinMap, Fits, Four, InOrder, InOrder-within, Int, IsIndex, IsNested, IsPacked, IsPermutation, Layout, LayoutPair, Leaf, LeafValue, Little, Owned, RecordDescr, Ring, Run, ScalarDescr, Two, address, blocks, buffer, bytes_eq, count, decode, decode_item, depth, distance, empty, field_at, fields, fields_of, filled, filled-reordered, filled-run, firsts-reordered, fits-offsets, from_entries, get, get_or-put_after, get_or-put_before, indexes, insert_entry, is_c_contiguous, item_at, item_at-put_same, item_from, item_of_joined, item_pairs, item_size, items_at, items_in, joined, keep_last, last_item, leaf_count, leaf_value, leaves_from, leaves_from-in_order, leaves_from-moved, leaves_in, leaves_in_order, leaves_of, legal_size, length-item_at, length-joined, length-leaves_from, length-offsets, length-put, list_any, max_bytes, move_index, moved_leaf, mul-step, mul_comm, multiples, nat_cmp, natural, nested-reordered, no_field, no_more, number, offsets_of, offsets_within, option_map, option_map_or, pair_even, places_of, put, put_each, put_each-append, range_with_len, record_field, retain_keys, run-within, run_offsets, runs, runs-within, scalar_field, shift_remove_entry, size, some_depth, some_leaves, spare, take_front, with_items}
 unfoldable pub use Rattle.name_store.specs.Words.{have_common_byte, offsets}
 pub use Rattle.name_store.specs.declared.bound.ArrayRef.{ArrayRef}
 pub use Rattle.name_store.specs.declared.bound.Bound.{Bound}
@@ -29,7 +29,7 @@ pub use Rattle.name_store.specs.declared.write.Source.{Source}
 pub use Rattle.name_store.specs.declared.write.Source.TheVariants.{Block, One}
 pub use Rattle.name_store.specs.declared.write.Target.{Target}
 pub use Rattle.name_store.specs.declared.write.Target.TheVariants.{Plan, View}
-pub use Rattle.name_store.specs.inside.Exchanges.{AreAll, IsPacked}
+pub use Rattle.name_store.specs.inside.Exchanges.{AreAll}
 pub use Rattle.name_store.specs.inside.Held.{Adds, IsLowest, stand}
 pub use Rattle.name_store.specs.inside.Homes.{HasNew, IsHome}
 pub use Rattle.name_store.specs.inside.OldItems.{AreKept, AreKeptAt, AreOld, AreSame}

@@ -209,7 +209,7 @@ module _ (es : List (List ℕ × Entry)) (slots : Slots) (ring : Ring Change) (s
 
       bytes-back : with_old os items s'.block ≡ s.block
       bytes-back =
-          ap (λ parts. with_items os parts s'.block) old.bytes
+          ap (λ parts. with_items os parts s'.block) old.packed.items
           ∙ (λ i. with_items os (items_at os width s.block) (new.rewritten.block i))
           ∙ restores-moved width (target_offsets target) os parts s.block moved whole' (recursion_from_All (λ o. o + width ≤ length s.block) (target_offsets target) all-within) within
 
@@ -231,7 +231,7 @@ module _ (es : List (List ℕ × Entry)) (slots : Slots) (ring : Ring Change) (s
       goes = record {
         inside = subst (λ n. All (λ o. o + items.width ≤ n) os) (s.is_whole.whole ∙ λ i. sym new.rewritten.items i * item_size (sym new.rewritten.descr i))
             (subst (λ n. All (λ o. o + n ≤ length s.block) os) (sym old.size) (All-from_recursion (λ o. o + width ≤ length s.block) os within));
-        whole = old.whole;
+        whole = old.packed.long;
       }
 
       own' : IsUndoable c names after
@@ -270,7 +270,7 @@ module _ (es : List (List ℕ × Entry)) (slots : Slots) (ring : Ring Change) (s
         pub write-counts : CountsWrite (bench_value es slots ring) name target (Ok n) (bench_value es last ring')
         write-counts = λ array found.
             patches-push ring ring' c ring-is
-            ∙ ap (λ bytes. keep_last ring.capacity (map patch_size ring.items ++ bytes ∷ [])) (old.whole ∙ (λ i. length_permutation (target_offsets target) os moved i * (old.size ∙ sym (size-is es slots name number width home array found)) i))
+            ∙ ap (λ bytes. keep_last ring.capacity (map patch_size ring.items ++ bytes ∷ [])) (old.packed.long ∙ (λ i. length_permutation (target_offsets target) os moved i * (old.size ∙ sym (size-is es slots name number width home array found)) i))
 
 -- Whether items were written or not, the arrays of the names lie in their slots, and the users of each are unchanged.
 module _ (es : List (List ℕ × Entry)) (slots : Slots) (ring : Ring Change) (spare : ℕ) (sound : IsSound es slots ring spare) (name : List ℕ) (number width : ℕ) (home : IsHome es slots name number width) (target : Target) (source : Source)

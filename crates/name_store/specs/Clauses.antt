@@ -9,11 +9,11 @@ pub use Rattle.name_store.specs.States.{BenchValue, start}
 pub use Rattle.name_store.specs.Targets.{IsAim, target_offsets, target_shape}
 pub use Rattle.name_store.specs.View.{bench_value, slot_at}
 pub use Rattle.name_store.specs.Views.{MayBind}
-pub use Rattle.name_store.specs.Words.{EachWithin, Fits, Ring, assigned, buffer, keep_last, last_item, max_bytes, option_map, put_each, run_offsets, spare}
+pub use Rattle.name_store.specs.Words.{ArePaired, Assigns, EachWithin, Fits, IsPacked, Ring, assigned, buffer, keep_last, last_item, max_bytes, option_map, put_each, run_offsets, spare}
 unfoldable pub use Rattle.name_store.specs.Words.{offsets}
 pub use Rattle.name_store.specs.declared.change.Change.{Change}
 pub use Rattle.name_store.specs.inside.Codes.{value_code}
-pub use Rattle.name_store.specs.inside.Exchanges.{AreAll, IsPacked}
+pub use Rattle.name_store.specs.inside.Exchanges.{AreAll}
 pub use Rattle.name_store.specs.inside.Held.{stand}
 pub use Rattle.name_store.specs.inside.OldItems.{AreKept, AreKeptAt, AreOld}
 pub use Rattle.name_store.specs.inside.Puts.{CanWrite, InPlace, IsNear, MayPut, MayRun, NeedsNone, Runs, RunsInPlace, Writes, parts_for, without_slot}

@@ -1,26 +1,12 @@
 -- The calls that take no memory: writes, if no states are kept, and `shares`, if the arrays lie in different buffers.
-use Rattle.std.specs.Prelude.{◌≡◌, ◌≢◌, ◌⊎◌, ℕ, ℤ, List, Some, reverse, IsTrue}
-use Rattle.name_store.specs.Words.{item_size, Layout, is_c_contiguous, offsets, IsStacked, AreApart, IsRun}
+use Rattle.std.specs.Prelude.{◌≡◌, ◌≢◌, ◌⊎◌, ℕ, List, Some, IsTrue}
+use Rattle.name_store.specs.Words.{item_size, Layout, is_c_contiguous, offsets, IsStacked, AreApart, AreReversed, AreRuns}
 use Rattle.name_store.specs.States.{State, Array}
 use Rattle.name_store.specs.Arrays.{find_array, descr_of}
 use Rattle.name_store.specs.declared.write.Source.{Source}
 use Rattle.name_store.specs.declared.write.Source.TheVariants.{One, Block, Buffer}
 use Rattle.name_store.specs.declared.write.Target.{Target}
 use Rattle.name_store.specs.declared.write.Target.TheVariants.{View, Plan}
-
--- both layouts are runs with the same step
-pub record AreRuns (to from : Layout) : Type 0 where
-  pub step : ℤ
-  pub to_run : IsRun step (offsets to)
-  pub from_run : IsRun step (offsets from)
-
--- both layouts are runs, and each is the reverse of the other
-pub record AreReversed (to from : Layout) : Type 0 where
-  pub step : ℤ
-  pub other : ℤ
-  pub to_run : IsRun step (offsets to)
-  pub from_run : IsRun other (offsets from)
-  pub reversed : offsets from ≡ reverse (offsets to)
 
 -- both layouts have the same shape and strides, and in some order of the axes, each steps clear of those before it
 pub record AreShifted (to from : Layout) (item : ℕ) : Type 0 where

@@ -27,9 +27,10 @@ pub use Rattle.fancy_index.specs.PlanLaws.{filled-run, put_each-append}
 pub use Rattle.fancy_index.specs.Plans.{put_each}
 pub use Rattle.indexmap.specs.IndexMap.{insert_entry, move_index, shift_remove_entry, spare}
 pub use Rattle.overlap_copy.specs.Apart.{AreApart}
+pub use Rattle.overlap_copy.specs.Copies.{ArePaired, Assigns, IsPacked}
 pub use Rattle.overlap_copy.specs.OrderLaws.{filled-reordered, nested-reordered}
 unfoldable pub use Rattle.overlap_copy.specs.Overlaps.{have_common_byte}
-pub use Rattle.overlap_copy.specs.Runs.{IsRun}
+pub use Rattle.overlap_copy.specs.Runs.{AreReversed, AreRuns}
 pub use Rattle.raw_block.specs.Bytes.{EachWithin, filled, item_at, joined, put}
 pub use Rattle.raw_block.specs.BytesLaws.{get_or-put_after, get_or-put_before, item_at-put_same, length-item_at, length-put}
 pub use Rattle.raw_block.specs.JoinedLaws.{item_of_joined, length-joined}

@@ -1,6 +1,6 @@
 //! Reads and writes the bytes of a block at the offsets of a target.
 ghost use Rattle.std.specs.Prelude.{◌≡◌, ◌+◌, ◌*◌, ◌≤◌, length, All, IfOk, IfErr, IsOk, IsTrue};
-ghost use Rattle.name_store.specs.Clauses.{flat_map, EachWithin, max_bytes, offsets, Fits, run_offsets, assigned, put_each, with_old, AreShifted, target_offsets, AreOld, MayPut, InPlace};
+ghost use Rattle.name_store.specs.Clauses.{AreOld, ArePaired, AreShifted, Assigns, EachWithin, Fits, InPlace, MayPut, assigned, flat_map, max_bytes, offsets, put_each, run_offsets, target_offsets, with_old};
 
 use crate::change::OldItems;
 use crate::write::Target;
@@ -60,13 +60,9 @@ pub(crate) fn copy_to(
     from: &Layout,
     width: usize,
 )
-    requires inside { All (λ offset. offset + width ≤ length block.old)
-        (target_offsets target.now) }
-    requires from { All (λ offset. offset + width ≤ length other.now) (offsets from.now) }
-    requires count { length (offsets from.now) ≡ length (target_offsets target.now) }
-    ensures bytes { block.new
-        ≡ assigned (target_offsets target.now) (offsets from.now) width other.now block.old }
-    ensures len { length block.new ≡ length block.old }
+    requires { ArePaired (target_offsets target.now) (offsets from.now) width other.now block.old }
+    ensures { Assigns (target_offsets target.now) (offsets from.now) width
+        other.now block.old block.new }
 {
     match target {
         Target::View(to) => assign_from(block, to, other, from, width),

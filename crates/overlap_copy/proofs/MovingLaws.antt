@@ -1,6 +1,6 @@
 -- Runs that are moved within one block, one after the other.
 use Rattle.std.proofs.Common.{◌≡◌, ◌+◌, ◌≤◌, ℕ, suc, List, [], ◌∷◌, ◌++◌, length, get_or, All, refl, sym, ap, subst, ◌∙◌, arith, length-append, get_or-append-add}
-use Rattle.overlap_copy.proofs.Words.{Each, get_or_append_left, All-from_recursion, item_at, EachWithin, copied_within, Run, IsNested, distance, run_offsets, length-run_offsets, place-at, run-ends, All-back, All-front, assigned-append, items_at, with_items, assigned, IsAssigned, LiesApart, LieApart, place_in}
+use Rattle.overlap_copy.proofs.Words.{Each, get_or_append_left, All-from_recursion, item_at, EachWithin, copied_within, Run, IsNested, distance, run_offsets, length-run_offsets, place-at, run-ends, All-back, All-front, assigned-append, items_at, with_items, assigned, Assigns, IsAssigned, RunsLie, LiesApart, LieApart, place_in}
 use Rattle.overlap_copy.proofs.CopyLaws.{kept}
 use Rattle.overlap_copy.proofs.MoveLaws.{same_assigned, retold, assigned_is, passed}
 
@@ -80,14 +80,14 @@ kept_later (offset ∷ later) to from width old block len to_in from_in in' apar
     )
 
 -- some of the items are moved
-pub moving_on : (to to' from from' : List ℕ) (width : ℕ) (old block block' whole : List ℕ) → length to ≡ length from → LieApart width to from' → block' ≡ assigned to from width block block → length block' ≡ length block → IsMoving (to ++ to') (from ++ from') width old block whole → IsMoving to' from' width old block' whole
-moving_on to to' from from' width old block block' whole even apart moved long m =
+pub moving_on : (to to' from from' : List ℕ) (width : ℕ) (old block block' whole : List ℕ) → length to ≡ length from → LieApart width to from' → Assigns to from width block block block' → IsMoving (to ++ to') (from ++ from') width old block whole → IsMoving to' from' width old block' whole
+moving_on to to' from from' width old block block' whole even apart moved m =
     let same = Each-front (λ offset. item_at offset width block ≡ item_at offset width old) from from' m.kept in
-    let is : block' ≡ assigned to from width old block = moved ∙ ap (λ items. with_items to items block) (same_items from width block old same) in
+    let is : block' ≡ assigned to from width old block = moved.written ∙ ap (λ items. with_items to items block) (same_items from width block old same) in
     let in_front = λ (o : ℕ). o + width ≤ length old in
     record {
       rest = ap (assigned to' from' width old) is ∙ sym (assigned-append to from to' from' width old block even) ∙ m.rest;
-      len = long ∙ m.len;
+      len = moved.len ∙ m.len;
       to_in = All-back in_front to to' m.to_in;
       from_in = All-back in_front from from' m.from_in;
       kept = subst (λ b. Each (λ offset. item_at offset width b ≡ item_at offset width old) from') (sym is)
@@ -98,31 +98,34 @@ moving_on to to' from from' width old block block' whole even apart moved long m
 -- ---- one run
 
 -- moves by index are an assignment
-pub assigned_from_moves : (to from : Run) (width : ℕ) (old new : List ℕ) → to.count ≡ from.count → EachWithin (length old) to.offset to.step width to.count → EachWithin (length old) from.offset from.step width from.count → IsNested (run_offsets to) width → IsAssigned to.count (place_in to) (place_in from) width old old new → new ≡ assigned (run_offsets to) (run_offsets from) width old old
-assigned_from_moves to from width old new even to_in from_in nested a =
+pub assigned_from_moves : {to from : Run} {width : ℕ} {old new : List ℕ} → RunsLie to from width old old → IsNested (run_offsets to) width → IsAssigned to.count (place_in to) (place_in from) width old old new → Assigns (run_offsets to) (run_offsets from) width old old new
+assigned_from_moves {to} {from} {width} {old} {new} lie nested a =
     let tos = run_offsets to in
     let froms = run_offsets from in
     let len = length old in
     let long = length-run_offsets to in
     let long' = length-run_offsets from in
     let by_place : IsAssigned (length tos) (λ k. get_or tos k 0) (λ k. get_or froms k 0) width old old new =
-    retold (length tos) (λ k. get_or tos k 0) (λ k. get_or froms k 0) (place_in to) (place_in from) width old old new (λ k below. (place-at len width to k to_in (omega (arith, below, long)), place-at len width from k from_in (omega (arith, below, long, even)))) (subst (λ m. IsAssigned m (place_in to) (place_in from) width old old new) (sym long) a) in
-    same_assigned (length tos) (λ k. get_or tos k 0) (λ k. get_or froms k 0) width old old new (assigned tos froms width old old) by_place (assigned_is width old tos froms old (omega (arith, long, long', even)) (run-ends len width to to_in) (run-ends len width from from_in) nested)
+    retold (length tos) (λ k. get_or tos k 0) (λ k. get_or froms k 0) (place_in to) (place_in from) width old old new (λ k below. (place-at len width to k lie.to_in (omega (arith, below, long)), place-at len width from k lie.from_in (omega (arith, below, long, lie.count)))) (subst (λ m. IsAssigned m (place_in to) (place_in from) width old old new) (sym long) a) in
+    record {
+      written = same_assigned (length tos) (λ k. get_or tos k 0) (λ k. get_or froms k 0) width old old new (assigned tos froms width old old) by_place (assigned_is width old tos froms old (omega (arith, long, long', lie.count)) (run-ends len width to lie.to_in) (run-ends len width from lie.from_in) nested);
+      len = a.len;
+    }
 
 -- the items of a run can be moved one after the other if they overlap none of those that are read
-pub apart_passed : (to from : Run) (width : ℕ) (old : List ℕ) → to.count ≡ from.count → EachWithin (length old) to.offset to.step width to.count → EachWithin (length old) from.offset from.step width from.count → IsNested (run_offsets to) width → LieApart width (run_offsets to) (run_offsets from) → IsAssigned to.count (place_in to) (place_in from) width old old (copied_within to.offset to.step from.offset from.step width to.count old)
-apart_passed to from width old even to_in from_in nested apart =
+pub apart_passed : {to from : Run} {width : ℕ} {old : List ℕ} → RunsLie to from width old old → IsNested (run_offsets to) width → LieApart width (run_offsets to) (run_offsets from) → IsAssigned to.count (place_in to) (place_in from) width old old (copied_within to.offset to.step from.offset from.step width to.count old)
+apart_passed {to} {from} {width} {old} lie nested apart =
     let len = length old in
     let tos = run_offsets to in
     let froms = run_offsets from in
     let long = length-run_offsets to in
     let long' = length-run_offsets from in
-    passed to.offset to.step from.offset from.step width old to.count to_in (subst (EachWithin len from.offset from.step width) (sym even) from_in) (record {
+    passed to.offset to.step from.offset from.step width old to.count lie.to_in (subst (EachWithin len from.offset from.step width) (sym lie.count) lie.from_in) (record {
       apart = λ j k before below.
           let far = nested.apart j k before (omega (arith, below, long)) in
-          omega (arith, far, place-at len width to j to_in (omega (arith, before, below)), place-at len width to k to_in below);
+          omega (arith, far, place-at len width to j lie.to_in (omega (arith, before, below)), place-at len width to k lie.to_in below);
       unread = λ j k before below.
           let row = All-from_recursion (λ at. LiesApart width at froms) tos apart j 0 (omega (arith, before, below, long)) in
-          let far = All-from_recursion (λ offset. width ≤ distance offset (get_or tos j 0)) froms row k 0 (omega (arith, below, even, long')) in
-          omega (arith, far, place-at len width to j to_in (omega (arith, before, below)), place-at len width from k from_in (omega (arith, below, even)));
+          let far = All-from_recursion (λ offset. width ≤ distance offset (get_or tos j 0)) froms row k 0 (omega (arith, below, lie.count, long')) in
+          omega (arith, far, place-at len width to j lie.to_in (omega (arith, before, below)), place-at len width from k lie.from_in (omega (arith, below, lie.count)));
     })

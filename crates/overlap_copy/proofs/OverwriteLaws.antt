@@ -1,6 +1,6 @@
 -- Items that are kept before others are written over them, part by part.
 use Rattle.std.proofs.Common.{◌≡◌, ◌+◌, ◌-◌, ◌*◌, ◌<◌, ◌≤◌, ℕ, zero, suc, ℤ, pos, ◌+ℤ◌, ◌*ℤ◌, ◌≤ℤ◌, List, [], ◌∷◌, ◌++◌, length, get_or, map, replicate, All, refl, sym, ap, subst, ◌∙◌, arith, append_assoc, get_or-append-add, length-append, nat_abs}
-use Rattle.overlap_copy.proofs.Words.{*ℤ_comm, zero-*ℤ, +ℤ_idl, add-mul, flat_map-append, ints, map-append, get_or-map, get_or-replicate, length-replicate, same_lists, take_all, All-head, All-tail, numbers_from, numbers-split, natural, put, item_at, length-item_at, length-put, place, position, position-add, max_bytes, LieWithin, address, address_at, Layout, count, indexes, length-indexes, offsets, length-offsets, Run, run_offsets, length-run_offsets, BeginsWithin, lie-within, IsNested, All-back, All-front, assigned-append, items_at, assigned, joined_at}
+use Rattle.overlap_copy.proofs.Words.{*ℤ_comm, zero-*ℤ, +ℤ_idl, add-mul, flat_map-append, ints, map-append, get_or-map, get_or-replicate, length-replicate, same_lists, take_all, All-head, All-tail, numbers_from, numbers-split, natural, put, item_at, length-item_at, length-put, place, position, position-add, max_bytes, LieWithin, address, address_at, Layout, count, indexes, length-indexes, offsets, length-offsets, Run, run_offsets, length-run_offsets, BeginsWithin, lie-within, IsNested, ArePaired, CanOverwrite, Overwrites, RunPair, All-back, All-front, assigned-append, items_at, assigned, joined_at}
 use Rattle.overlap_copy.specs.Words.{dot}
 use Rattle.overlap_copy.proofs.MovingLaws.{nested-back}
 use Rattle.overlap_copy.proofs.ShiftLaws.{lies-from}
@@ -35,55 +35,66 @@ kept-behind width (at ∷ to) places (offset ∷ from) other block nested in_to 
 abbrev pub overwritten : List ℕ → List ℕ → ℕ → List ℕ → List ℕ → List ℕ → List ℕ × List ℕ
 overwritten to from width other block kept = (assigned to from width other block, kept ++ joined_at to width block)
 
-pub record IsLeft (to from : List ℕ) (width : ℕ) (other block kept : List ℕ) (room : ℕ) (whole : List ℕ × List ℕ) (spare : ℕ) : Type 0 where
+-- `now` is the block, and what is kept
+pub record IsLeft (to from : List ℕ) (width : ℕ) (other : List ℕ) (now : List ℕ × (List ℕ × ℕ)) (whole : List ℕ × List ℕ) (spare : ℕ) : Type 0 where
   pub nested : IsNested to width
-  pub to_in : All (λ o. o + width ≤ length block) to
-  pub from_in : All (λ o. o + width ≤ length other) from
-  pub rest : overwritten to from width other block kept ≡ whole
-  pub fills : length to * width + spare ≡ room
+  pub paired : ArePaired to from width other now.0
+  pub rest : overwritten to from width other now.0 now.1.0 ≡ whole
+  pub fills : length to * width + spare ≡ now.1.1
 
--- at first, all of them remain
-pub all-left : (to from : List ℕ) (width : ℕ) (other block kept : List ℕ) (room : ℕ) → IsNested to width → All (λ o. o + width ≤ length block) to → All (λ o. o + width ≤ length other) from → length to * width ≤ room
-    → IsLeft to from width other block kept room (overwritten to from width other block kept) (room - length to * width)
-all-left to from width other block kept room nested to_in from_in enough = record { nested = nested; to_in = to_in; from_in = from_in; rest = refl; fills = omega (arith, enough) }
-
--- a property of all places holds for the next ones
-pub next-all : (P : ℕ → Type 0) (to to' os : List ℕ) → to ++ to' ≡ os → All P os → All P to
-next-all P to to' os is all = All-front P to to' (subst (All P) (sym is) all)
-
--- there is room for the next items
-pub next-room : (run : Run) (to' os : List ℕ) (width spare room : ℕ) → run_offsets run ++ to' ≡ os → length os * width + spare ≡ room → run.count * width ≤ room
-next-room run to' os width spare room is fills =
-    let many = sym (length-append (run_offsets run) to') ∙ ap length is in
-    omega (arith, fills, ap (λ n. n * width) many, add-mul (length (run_offsets run)) (length to') width, ap (λ n. n * width) (length-run_offsets run))
-
--- the next items are kept and written
-pub left-on : (run other_run : Run) (to' from' os os' : List ℕ) (width : ℕ) (other block block' kept kept' : List ℕ) (room room' : ℕ) (whole : List ℕ × List ℕ) (spare : ℕ) → run_offsets run ++ to' ≡ os → run_offsets other_run ++ from' ≡ os' → run.count ≡ other_run.count
-    → block' ≡ assigned (run_offsets run) (run_offsets other_run) width other block → length block' ≡ length block → kept' ≡ kept ++ joined_at (run_offsets run) width block → run.count * width + room' ≡ room
-    → IsLeft os os' width other block kept room whole spare → IsLeft to' from' width other block' kept' room' whole spare
-left-on run other_run to' from' os os' width other block block' kept kept' room room' whole spare all all' even is len is' filled l =
-    let to = run_offsets run in
-    let from = run_offsets other_run in
-    let nested = subst (λ xs. IsNested xs width) (sym all) l.nested in
-    let to_in = subst (All (λ o. o + width ≤ length block)) (sym all) l.to_in in
-    let from_in = subst (All (λ o. o + width ≤ length other)) (sym all') l.from_in in
-    let behind : joined_at to' width block' ≡ joined_at to' width block =
-    ap (joined_at to' width) is ∙ kept-behind width to to' from other block nested to_in (All-front (λ o. o + width ≤ length other) from from' from_in) in
-    let written : assigned to' from' width other block' ≡ assigned os os' width other block =
-    ap (assigned to' from' width other) is
-    ∙ sym (assigned-append to from to' from' width other block (length-run_offsets run ∙ even ∙ sym (length-run_offsets other_run)))
-    ∙ (λ i. assigned (all i) (all' i) width other block) in
-    let old : kept' ++ joined_at to' width block' ≡ kept ++ joined_at os width block =
-    (λ i. is' i ++ behind i)
-    ∙ append_assoc kept (joined_at to width block) (joined_at to' width block)
-    ∙ ap (λ l. kept ++ l) (sym (flat_map-append (λ o. item_at o width block) to to') ∙ ap (λ xs. joined_at xs width block) all) in
+-- the next items can be kept and written over
+pub next-can : (pair : RunPair) (to' from' os os' : List ℕ) (width : ℕ) (other : List ℕ) (now : List ℕ × (List ℕ × ℕ)) (whole : List ℕ × List ℕ) (spare : ℕ) → run_offsets pair.first ++ to' ≡ os → run_offsets pair.second ++ from' ≡ os' → pair.first.count ≡ pair.second.count
+    → BeginsWithin pair.first → BeginsWithin pair.second → IsLeft os os' width other now whole spare → CanOverwrite pair width other now.0 now.1
+next-can pair to' from' os os' width other now whole spare all all' even begins begins' l =
+    let to = run_offsets pair.first in
+    let from = run_offsets pair.second in
+    let in_block = λ (o : ℕ). o + width ≤ length now.0 in
+    let in_other = λ (o : ℕ). o + width ≤ length other in
     let many = sym (length-append to to') ∙ ap length all in
     record {
+      begins = begins;
+      other_begins = begins';
+      paired = record {
+        to_in = All-front in_block to to' (subst (All in_block) (sym all) l.paired.to_in);
+        from_in = All-front in_other from from' (subst (All in_other) (sym all') l.paired.from_in);
+        count = length-run_offsets pair.second ∙ sym even ∙ sym (length-run_offsets pair.first);
+      };
+      room = omega (arith, l.fills, ap (λ n. n * width) many, add-mul (length to) (length to') width, ap (λ n. n * width) (length-run_offsets pair.first));
+    }
+
+-- they are kept and written over
+pub left-on : (pair : RunPair) (to' from' os os' : List ℕ) (width : ℕ) (other : List ℕ) (now next : List ℕ × (List ℕ × ℕ)) (whole : List ℕ × List ℕ) (spare : ℕ) → run_offsets pair.first ++ to' ≡ os → run_offsets pair.second ++ from' ≡ os' → pair.first.count ≡ pair.second.count
+    → Overwrites pair width other now next → IsLeft os os' width other now whole spare → IsLeft to' from' width other next whole spare
+left-on pair to' from' os os' width other now next whole spare all all' even over l =
+    let to = run_offsets pair.first in
+    let from = run_offsets pair.second in
+    let in_block = λ (o : ℕ). o + width ≤ length now.0 in
+    let in_other = λ (o : ℕ). o + width ≤ length other in
+    let nested = subst (λ xs. IsNested xs width) (sym all) l.nested in
+    let to_in = subst (All in_block) (sym all) l.paired.to_in in
+    let from_in = subst (All in_other) (sym all') l.paired.from_in in
+    let same = length-run_offsets pair.first ∙ even ∙ sym (length-run_offsets pair.second) in
+    let behind : joined_at to' width next.0 ≡ joined_at to' width now.0 =
+    ap (joined_at to' width) over.there.written ∙ kept-behind width to to' from other now.0 nested to_in (All-front in_other from from' from_in) in
+    let written : assigned to' from' width other next.0 ≡ assigned os os' width other now.0 =
+    ap (assigned to' from' width other) over.there.written
+    ∙ sym (assigned-append to from to' from' width other now.0 same)
+    ∙ (λ i. assigned (all i) (all' i) width other now.0) in
+    let old : next.1.0 ++ joined_at to' width next.0 ≡ now.1.0 ++ joined_at os width now.0 =
+    (λ i. over.old_items i ++ behind i)
+    ∙ append_assoc now.1.0 (joined_at to width now.0) (joined_at to' width now.0)
+    ∙ ap (λ l. now.1.0 ++ l) (sym (flat_map-append (λ o. item_at o width now.0) to to') ∙ ap (λ xs. joined_at xs width now.0) all) in
+    let many = sym (length-append to to') ∙ ap length all in
+    let many' = sym (length-append from from') ∙ ap length all' in
+    record {
       nested = nested-back to to' width nested;
-      to_in = subst (λ n. All (λ o. o + width ≤ n) to') (sym len) (All-back (λ o. o + width ≤ length block) to to' to_in);
-      from_in = All-back (λ o. o + width ≤ length other) from from' from_in;
+      paired = record {
+        to_in = subst (λ n. All (λ o. o + width ≤ n) to') (sym over.there.len) (All-back in_block to to' to_in);
+        from_in = All-back in_other from from' from_in;
+        count = omega (arith, many, many', same, l.paired.count);
+      };
       rest = (λ i. (written i, old i)) ∙ l.rest;
-      fills = omega (arith, l.fills, filled, ap (λ n. n * width) many, add-mul (length to) (length to') width, ap (λ n. n * width) (length-run_offsets run));
+      fills = omega (arith, l.fills, over.left, ap (λ n. n * width) many, add-mul (length to) (length to') width, ap (λ n. n * width) (length-run_offsets pair.first));
     }
 
 -- ---- the first items of a run, and those after them

@@ -1,16 +1,38 @@
 -- Pairs of runs: those of layouts that are single runs, and those that are copied pair by pair.
 use Rattle.std.proofs.Common.{◌≡◌, ℕ, ◌+◌, ◌≤◌, List, ◌∷◌, All, length, sym, ap, subst, ◌∙◌}
-use Rattle.overlap_copy.proofs.Words.{EachWithin, Run, RunPair, run_offsets, length-run_offsets, Layout, count, offsets, length-offsets, BeginsWithin, run-within, assigned-append, assigned, firsts, seconds}
+use Rattle.overlap_copy.proofs.Words.{All-firsts, All-seconds, ArePaired, CanMove, IsPermutation, LayoutPair, Run, RunPair, RunsLie, pair_even, zip, run_offsets, length-run_offsets, Layout, count, offsets, offsets_within, length-offsets, BeginsWithin, run-within, assigned-append, assigned, firsts, seconds}
 
--- ---- layouts that are runs
+-- ---- as many items
 
--- layouts with the same number of items are runs with the same number of items
-pub as_many : (first second : Layout) (to from : Run) → count first.shape ≡ count second.shape → run_offsets to ≡ offsets first → run_offsets from ≡ offsets second → to.count ≡ from.count
-as_many first second to from same is is' =
-    sym (length-run_offsets to) ∙ ap length is ∙ length-offsets first ∙ same ∙ sym (length-offsets second) ∙ ap length (sym is') ∙ length-run_offsets from
+pub same-count : (first second : Layout) → length (offsets second) ≡ length (offsets first) → count first.shape ≡ count second.shape
+same-count first second even = sym (length-offsets first) ∙ sym even ∙ length-offsets second
 
-pub one-within : (len width : ℕ) (run : Run) (os : List ℕ) → BeginsWithin run → run_offsets run ≡ os → All (λ offset. offset + width ≤ len) os → EachWithin len run.offset run.step width run.count
-one-within len width run os begins is ends = run-within len width run begins (subst (All (λ offset. offset + width ≤ len)) (sym is) ends)
+pub move-paired : {dst src : Layout} {width : ℕ} {block : List ℕ} → CanMove dst src width block → ArePaired (offsets dst) (offsets src) width block block
+move-paired {dst} {src} {width} {block} can =
+    record { to_in = offsets_within dst (length block) width can.dst_fits; from_in = offsets_within src (length block) width can.src_fits; count = can.count }
+
+-- the other way round
+pub flipped-paired : {to from : List ℕ} {width : ℕ} {other block : List ℕ} → ArePaired to from width other block → ArePaired from to width block other
+flipped-paired paired = record { to_in = paired.from_in; from_in = paired.to_in; count = sym paired.count }
+
+-- in another order
+pub paired-reordered : {to from : List ℕ} {width : ℕ} {other block : List ℕ} (pair : LayoutPair) → IsPermutation (zip to from) (zip (offsets pair.target) (offsets pair.source)) → ArePaired to from width other block
+    → ArePaired (offsets pair.target) (offsets pair.source) width other block
+paired-reordered {to} {from} {width} {other} {block} pair same paired =
+    let even = pair_even pair in
+    record {
+      to_in = All-firsts (λ o. o + width ≤ length block) to from (offsets pair.target) (offsets pair.source) paired.count even same paired.to_in;
+      from_in = All-seconds (λ o. o + width ≤ length other) to from (offsets pair.target) (offsets pair.source) paired.count even same paired.from_in;
+      count = even;
+    }
+
+-- of two runs
+pub runs-lie : {to from : List ℕ} {width : ℕ} {other block : List ℕ} (first second : Run) → run_offsets first ≡ to → run_offsets second ≡ from → BeginsWithin first → BeginsWithin second → ArePaired to from width other block → RunsLie first second width other block
+runs-lie {to} {from} {width} {other} {block} first second is is' begins begins' paired = record {
+  count = sym (length-run_offsets first) ∙ ap length is ∙ sym paired.count ∙ ap length (sym is') ∙ length-run_offsets second;
+  to_in = run-within (length block) width first begins (subst (All (λ offset. offset + width ≤ length block)) (sym is) paired.to_in);
+  from_in = run-within (length other) width second begins' (subst (All (λ offset. offset + width ≤ length other)) (sym is') paired.from_in);
+}
 
 -- ---- pair by pair
 

@@ -1,6 +1,6 @@
 -- Items that are all moved by the same number of bytes, in the order of their addresses.
-use Rattle.std.proofs.Common.{◌≡◌, ◌+◌, ◌-◌, ◌<◌, ◌≤◌, ℕ, ℤ, pos, ◌+ℤ◌, ◌*ℤ◌, ◌≤ℤ◌, List, [], ◌∷◌, ◌++◌, map, length, get_or, All, sym, ap, subst, ◌∙◌, arith, length-append, get_or-append-add, nat_abs}
-use Rattle.overlap_copy.proofs.Words.{flat_map, *ℤ_comm, *ℤ-zero, +ℤ_idr, ints, length-map, get_or-map, map-append, get_or_append_left, get_or_default, same_lists, recursion_from_All, All-head, numbers_from, natural, position, EachWithin, not_negative, Run, max_bytes, max_items, LieWithin, address_at, IsIndex, distance, run_offsets, length-run_offsets, place-at, run-ends, lie-within, runs-within, All-back, All-front, assigned, IsLine, IsTurned, LiesApart, LieApart, place_in, source, sources, source_run, MayCome}
+use Rattle.std.proofs.Common.{◌≡◌, ◌+◌, ◌-◌, ◌<◌, ◌≤◌, ℕ, ℤ, pos, ◌+ℤ◌, ◌*ℤ◌, ◌≤ℤ◌, List, [], ◌∷◌, ◌++◌, map, length, get_or, All, refl, sym, ap, subst, ◌∙◌, arith, length-append, get_or-append-add, nat_abs}
+use Rattle.overlap_copy.proofs.Words.{flat_map, *ℤ_comm, *ℤ-zero, +ℤ_idr, ints, length-map, get_or-map, map-append, get_or_append_left, get_or_default, same_lists, recursion_from_All, All-head, numbers_from, natural, position, EachWithin, not_negative, Run, max_bytes, LieWithin, address_at, IsIndex, distance, run_offsets, length-run_offsets, place-at, run-ends, lie-within, runs-within, All-back, All-front, Assigns, CanMoveRun, IsLine, IsTurned, LiesApart, LieApart, place_in, source, sources, source_run, MayCome}
 use Rattle.overlap_copy.proofs.MovingLaws.{nested-front, nested-back, IsMoving, moving_on}
 use Rattle.overlap_copy.proofs.TurnLaws.{turned_within, add-nothing}
 use Rattle.overlap_copy.proofs.LineLaws.{first_place}
@@ -158,19 +158,19 @@ module _ (len width to from : ℕ) (left rest : List Run) (run : Run) (is : left
   all-come : MayCome len width to from (run_offsets run ++ flat_map run_offsets rest)
   all-come = subst (λ l. MayCome len width to from (flat_map run_offsets l)) is come
 
-  pub next-some : 1 ≤ run.count
+  next-some : 1 ≤ run.count
   next-some = All-head (λ r. 1 ≤ r.count) run rest (subst (All (λ r. 1 ≤ r.count)) is some)
 
-  pub next-come : MayCome len width to from (run_offsets run)
+  next-come : MayCome len width to from (run_offsets run)
   next-come = come-front len width to from (run_offsets run) (flat_map run_offsets rest) all-come
 
   pub later-come : MayCome len width to from (flat_map run_offsets rest)
   later-come = come-back len width to from (run_offsets run) (flat_map run_offsets rest) all-come
 
-  pub next-lies : LieWithin (run.count ∷ []) (run.step ∷ []) run.offset max_bytes 1
+  next-lies : LieWithin (run.count ∷ []) (run.step ∷ []) run.offset max_bytes 1
   next-lies = All-head (λ r. LieWithin (r.count ∷ []) (r.step ∷ []) r.offset max_bytes 1) run rest (subst (All (λ r. LieWithin (r.count ∷ []) (r.step ∷ []) r.offset max_bytes 1)) is begin)
 
-  pub next-within : EachWithin len run.offset run.step width run.count
+  next-within : EachWithin len run.offset run.step width run.count
   next-within =
       All-head (λ r. EachWithin len r.offset r.step width r.count) run rest (subst (All (λ r. EachWithin len r.offset r.step width r.count)) is (runs-within len width (λ r. r) left begin come.targets))
 
@@ -180,20 +180,27 @@ module _ (len width to from : ℕ) (left rest : List Run) (run : Run) (is : left
   pub next-low : to ≤ run.offset + from
   next-low = low-first len width to from run next-some next-within next-come
 
-  pub next-few : run.count ≤ max_items
-  next-few = omega (arith, next-come.few, length-run_offsets run)
-
-  pub next-source-lies : LieWithin (run.count ∷ []) (run.step ∷ []) (source to from run.offset) max_bytes 1
-  next-source-lies = source-lies len width to from run next-some next-within next-come
-
-  pub next-source-within : EachWithin len (source to from run.offset) run.step width run.count
-  next-source-within = source-within len width to from run next-some next-within next-come
+  -- the run can be moved
+  pub next-can : (block : List ℕ) → length block ≡ len → CanMoveRun run (source_run to from run) width block
+  next-can block long = record {
+    lie = record {
+      count = refl;
+      to_in = subst (λ n. EachWithin n run.offset run.step width run.count) (sym long) next-within;
+      from_in = subst (λ n. EachWithin n (source to from run.offset) run.step width run.count) (sym long) (source-within len width to from run next-some next-within next-come);
+    };
+    some = next-some;
+    few = omega (arith, next-come.few, length-run_offsets run);
+    step = refl;
+    to_limit = next-lies;
+    from_limit = source-lies len width to from run next-some next-within next-come;
+    nested = next-come.nested;
+  }
 
   -- the run is moved
-  pub run-moved : (old block block' whole : List ℕ) → block' ≡ assigned (run_offsets run) (run_offsets (source_run to from run)) width block block → length block' ≡ length block → IsMoving (flat_map run_offsets left) (sources to from (flat_map run_offsets left)) width old block whole → IsMoving (flat_map run_offsets rest) (sources to from (flat_map run_offsets rest)) width old block' whole
-  run-moved old block block' whole moved long m =
+  pub run-moved : (old block block' whole : List ℕ) → Assigns (run_offsets run) (run_offsets (source_run to from run)) width block block block' → IsMoving (flat_map run_offsets left) (sources to from (flat_map run_offsets left)) width old block whole → IsMoving (flat_map run_offsets rest) (sources to from (flat_map run_offsets rest)) width old block' whole
+  run-moved old block block' whole moved m =
       let xs = run_offsets run in
       let ys = flat_map run_offsets rest in
-      let here = moved ∙ ap (λ os. assigned xs os width block block) (source-offsets len width to from run next-some next-within next-come) in
+      let here = subst (λ os. Assigns xs os width block block block') (source-offsets len width to from run next-some next-within next-come) moved in
       let both = subst (λ l. IsMoving (flat_map run_offsets l) (sources to from (flat_map run_offsets l)) width old block whole) is m in
-      moving_on xs ys (sources to from xs) (sources to from ys) width old block block' whole (sym (length-map xs (source to from))) (apart-later len width to from xs ys all-come) here long (subst (λ os. IsMoving (xs ++ ys) os width old block whole) (map-append (source to from) xs ys) both)
+      moving_on xs ys (sources to from xs) (sources to from ys) width old block block' whole (sym (length-map xs (source to from))) (apart-later len width to from xs ys all-come) here (subst (λ os. IsMoving (xs ++ ys) os width old block whole) (map-append (source to from) xs ys) both)

@@ -1,6 +1,6 @@
 -- Items of two blocks that are exchanged: each block then has the items that the other one had.
 use Rattle.std.proofs.Common.{◌≡◌, ◌+◌, ◌<◌, ◌≤◌, ◌⊎◌, inl, inr, ℕ, zero, suc, ℤ, List, [], ◌∷◌, ◌++◌, length, get_or, All, refl, sym, ap, subst, ◌∙◌, arith}
-use Rattle.overlap_copy.proofs.Words.{cases_lt, same_lists, length-map, get_or-map, All-head, All-tail, put, item_at, place, EachWithin, traded, length-item_at, length-put, item_at-put_apart, fewer, Run, RunPair, IsNested, distance, run_offsets, length-run_offsets, run_offsets-more, items_at, with_items, assigned, traded_at, firsts, seconds}
+use Rattle.overlap_copy.proofs.Words.{cases_lt, same_lists, length-map, get_or-map, All-head, All-tail, put, item_at, place, EachWithin, traded, length-item_at, length-put, item_at-put_apart, fewer, Run, RunPair, IsNested, distance, run_offsets, length-run_offsets, run_offsets-more, items_at, with_items, assigned, traded_at, ArePaired, RunsLie, firsts, seconds}
 use Rattle.overlap_copy.proofs.MoveLaws.{assigned_is}
 use Rattle.overlap_copy.proofs.MovingLaws.{nested-back}
 
@@ -29,11 +29,10 @@ traded-run len other_len a a_step b b_step width (suc n) block other to from =
     ∙ sym (traded-append (run_offsets here) (run_offsets there) (last ∷ []) (last' ∷ []) width (block, other) (length-run_offsets here ∙ sym (length-run_offsets there)))
     ∙ λ i. traded_at (sym (run_offsets-more len a a_step width n to) i) (sym (run_offsets-more other_len b b_step width n from) i) width (block, other)
 
-pub traded-even : (to from : Run) (width : ℕ) (block other : List ℕ) → to.count ≡ from.count → EachWithin (length block) to.offset to.step width to.count → EachWithin (length other) from.offset from.step width from.count →
-    traded to.offset to.step from.offset from.step width to.count block other ≡ traded_at (run_offsets to) (run_offsets from) width (block, other)
-traded-even to from width block other even lies lies' =
-    traded-run (length block) (length other) to.offset to.step from.offset from.step width to.count block other lies (subst (EachWithin (length other) from.offset from.step width) (sym even) lies')
-    ∙ ap (λ n. traded_at (run_offsets to) (run_offsets (record { offset = from.offset; count = n; step = from.step })) width (block, other)) even
+pub traded-even : {to from : Run} {width : ℕ} {other block : List ℕ} → RunsLie to from width other block → traded to.offset to.step from.offset from.step width to.count block other ≡ traded_at (run_offsets to) (run_offsets from) width (block, other)
+traded-even {to} {from} {width} {other} {block} lie =
+    traded-run (length block) (length other) to.offset to.step from.offset from.step width to.count block other lie.to_in (subst (EachWithin (length other) from.offset from.step width) (sym lie.count) lie.from_in)
+    ∙ ap (λ n. traded_at (run_offsets to) (run_offsets (record { offset = from.offset; count = n; step = from.step })) width (block, other)) lie.count
 
 -- ---- pair by pair
 
@@ -61,16 +60,16 @@ kept_items width at item (o ∷ places) block long inside within apart =
     let later = kept_items width at item places block long inside (All-tail (λ o. o + width ≤ length block) o places within) (λ k below. apart (suc k) (omega (arith, below))) in
     λ i. same i ∷ later i
 
-pub traded-apart : (width : ℕ) (to from block other : List ℕ) → length from ≡ length to → IsNested to width → IsNested from width → All (λ o. o + width ≤ length block) to → All (λ o. o + width ≤ length other) from →
+pub traded-apart : (width : ℕ) (to from block other : List ℕ) → IsNested to width → IsNested from width → ArePaired to from width other block →
     traded_at to from width (block, other) ≡ (assigned to from width other block, assigned from to width block other)
-traded-apart width [] [] block other even nested nested' in_to in_from = refl
-traded-apart width [] (offset ∷ from) block other even nested nested' in_to in_from = absurd (omega (arith, even))
-traded-apart width (at ∷ to) [] block other even nested nested' in_to in_from = absurd (omega (arith, even))
-traded-apart width (at ∷ to) (offset ∷ from) block other even nested nested' in_to in_from =
+traded-apart width [] [] block other nested nested' paired = refl
+traded-apart width [] (offset ∷ from) block other nested nested' paired = absurd (omega (arith, paired.count))
+traded-apart width (at ∷ to) [] block other nested nested' paired = absurd (omega (arith, paired.count))
+traded-apart width (at ∷ to) (offset ∷ from) block other nested nested' paired =
     let ends = λ (o : ℕ). o + width ≤ length block in
     let ends' = λ (o : ℕ). o + width ≤ length other in
-    let here = All-head ends at to in_to in
-    let there = All-head ends' offset from in_from in
+    let here = All-head ends at to paired.to_in in
+    let there = All-head ends' offset from paired.from_in in
     let item = item_at offset width other in
     let item' = item_at at width block in
     let long = length-item_at offset width other there in
@@ -79,19 +78,21 @@ traded-apart width (at ∷ to) (offset ∷ from) block other even nested nested'
     let y = put offset item' other in
     let same = length-put at item block (omega (arith, here, long)) in
     let same' = length-put offset item' other (omega (arith, there, long')) in
-    let kept : items_at from width y ≡ items_at from width other = kept_items width offset item' from other long' there (All-tail ends' offset from in_from) (λ k below. nested'.apart 0 (suc k) (omega arith) (omega (arith, below))) in
-    let kept' : items_at to width x ≡ items_at to width block = kept_items width at item to block long here (All-tail ends at to in_to) (λ k below. nested.apart 0 (suc k) (omega arith) (omega (arith, below))) in
-    traded-apart width to from x y (omega (arith, even)) (nested-back (at ∷ []) to width nested) (nested-back (offset ∷ []) from width nested')
-    (subst (λ n. All (λ o. o + width ≤ n) to) (sym same) (All-tail ends at to in_to)) (subst (λ n. All (λ o. o + width ≤ n) from) (sym same') (All-tail ends' offset from in_from))
+    let kept : items_at from width y ≡ items_at from width other = kept_items width offset item' from other long' there (All-tail ends' offset from paired.from_in) (λ k below. nested'.apart 0 (suc k) (omega arith) (omega (arith, below))) in
+    let kept' : items_at to width x ≡ items_at to width block = kept_items width at item to block long here (All-tail ends at to paired.to_in) (λ k below. nested.apart 0 (suc k) (omega arith) (omega (arith, below))) in
+    traded-apart width to from x y (nested-back (at ∷ []) to width nested) (nested-back (offset ∷ []) from width nested') (record {
+      to_in = subst (λ n. All (λ o. o + width ≤ n) to) (sym same) (All-tail ends at to paired.to_in);
+      from_in = subst (λ n. All (λ o. o + width ≤ n) from) (sym same') (All-tail ends' offset from paired.from_in);
+      count = omega (arith, paired.count);
+    })
     ∙ (λ i. (with_items to (kept i) x, with_items from (kept' i) y))
 
 -- the items are read back where they were written
-pub items-assigned : (width : ℕ) (to from other block : List ℕ) → length from ≡ length to → IsNested to width → All (λ o. o + width ≤ length block) to → All (λ o. o + width ≤ length other) from →
-    items_at to width (assigned to from width other block) ≡ items_at from width other
-items-assigned width to from other block even nested in_to in_from =
+pub items-assigned : {to from : List ℕ} {width : ℕ} {other block : List ℕ} → IsNested to width → ArePaired to from width other block → items_at to width (assigned to from width other block) ≡ items_at from width other
+items-assigned {to} {from} {width} {other} {block} nested paired =
     let new = assigned to from width other block in
-    let is = assigned_is width other to from block (sym even) in_to in_from nested in
+    let is = assigned_is width other to from block (sym paired.count) paired.to_in paired.from_in nested in
     let long = length-map to (λ o. item_at o width new) in
-    same_lists (items_at to width new) (items_at from width other) (long ∙ sym even ∙ sym (length-map from (λ o. item_at o width other))) (λ k d below.
+    same_lists (items_at to width new) (items_at from width other) (long ∙ sym paired.count ∙ sym (length-map from (λ o. item_at o width other))) (λ k d below.
     let low : k < length to = omega (arith, below, long) in
-    get_or-map (λ o. item_at o width new) to k 0 d low ∙ is.items k low ∙ sym (get_or-map (λ o. item_at o width other) from k 0 d (omega (arith, low, even))))
+    get_or-map (λ o. item_at o width new) to k 0 d low ∙ is.items k low ∙ sym (get_or-map (λ o. item_at o width other) from k 0 d (omega (arith, low, paired.count))))

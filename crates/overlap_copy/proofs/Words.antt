@@ -1,14 +1,16 @@
 -- Names from std, from the crates below and from `specs/`, which the proofs use.
 pub use Rattle.overlap_copy.specs.Apart.{IsGreatestDivisor, LieBetween, step_of, steps}
-pub use Rattle.overlap_copy.specs.OrderLaws.{assigned-reordered, nested-reordered}
+pub use Rattle.overlap_copy.specs.Copies.{ArePaired, Assigns, CanMove, IsPacked}
+pub use Rattle.overlap_copy.specs.OrderLaws.{assigns-reordered, nested-reordered}
 pub use Rattle.overlap_copy.specs.Overlaps.{do_ranges_meet}
 unfoldable pub use Rattle.overlap_copy.specs.Overlaps.{begins_below, have_common_byte}
-pub use Rattle.overlap_copy.specs.Words.{All-back, All-firsts, All-from_recursion, All-front, All-head, All-permutation, All-seconds, All-tail, Axis, BeginsWithin, Each, EachWithin, Fits, IsFalling, IsInOrder, IsIndex, IsNested, IsPermutation, IsPermutation-sym, IsRising, Layout, LieAbove, LieBelow, LieWithin, Run, RunPair, address, address_at, assigned, assigned-append, axes, begins_within, byte_of, cases_eq, cases_lt, copied_within, count, distance, dot, entry-first, even, exchanged, exchanged-items, exchanged-outside, ext_get_or, factors_pos, fewer, firsts-reordered, flat_map, flipped-reordered, get_or-map, get_or-put_after, get_or-put_before, get_or_default, index_at, indexes, item_at, item_at-put_apart, item_at-put_same, items_at, joined-items, joined_at, length-exchanged, length-indexes, length-item_at, length-joined_at, length-map, length-offsets, length-put, length-replicate, length-run_offsets, lengths_in, lie-within, list_any, max_bytes, max_items, multiples, natural, next_pair, not_negative, numbers-split, numbers_from, offsets_within, pair_even, place, place-at, place_within, pos-offset, position, position-add, put, rank, reach, reached, reordered, run-ends, run-within, run_offsets, run_offsets-more, runs-within, same_test, seconds-reordered, swapped, times_of, traded, walked-within, with_items, ◌∣◌}
+pub use Rattle.overlap_copy.specs.Words.{All-back, All-firsts, All-from_recursion, All-front, All-head, All-permutation, All-seconds, All-tail, Axis, BeginsWithin, Each, EachWithin, Fits, IsFalling, IsInOrder, IsIndex, IsNested, IsPermutation, IsPermutation-sym, IsRising, Layout, LayoutPair, LieAbove, LieBelow, LieWithin, Run, RunPair, address, address_at, assigned, assigned-append, axes, begins_within, byte_of, cases_eq, cases_lt, copied_within, count, distance, dot, entry-first, exchanged, exchanged-items, exchanged-outside, ext_get_or, factors_pos, fewer, firsts-reordered, flat_map, flipped-reordered, get_or-map, get_or-put_after, get_or-put_before, get_or_default, index_at, indexes, item_at, item_at-put_apart, item_at-put_same, items_at, joined-items, joined_at, length-exchanged, length-indexes, length-item_at, length-joined_at, length-map, length-offsets, length-put, length-replicate, length-run_offsets, lengths_in, lie-within, list_any, max_bytes, max_items, multiples, natural, next_pair, not_negative, numbers-split, numbers_from, offsets_within, pair_even, place, place-at, place_within, pos-offset, position, position-add, put, rank, reach, reached, reordered, run-ends, run-within, run_offsets, run_offsets-more, runs-within, same_test, seconds-reordered, swapped, times_of, traded, walked-within, with_items, zip, ◌∣◌}
 unfoldable pub use Rattle.overlap_copy.specs.Words.{offsets}
 pub use Rattle.overlap_copy.specs.inside.Joins.{AreJoined, SameSums}
 pub use Rattle.overlap_copy.specs.inside.Marks.{IsMarkedUpTo, is_end_marked, is_marked}
 unfoldable pub use Rattle.overlap_copy.specs.inside.Marks.{holds_byte}
-pub use Rattle.overlap_copy.specs.inside.Moves.{AreAlike, AreSpaced, IsAssigned, IsLine, IsOutside, IsTurned, LieApart, LiesApart, firsts, place_in, seconds}
+pub use Rattle.overlap_copy.specs.inside.Moves.{AreAlike, AreSpaced, CanMoveRun, IsAssigned, IsLine, IsOutside, IsTurned, LieApart, LiesApart, RunsLie, firsts, place_in, seconds}
+pub use Rattle.overlap_copy.specs.inside.Overwrites.{CanOverwrite, Overwrites}
 pub use Rattle.overlap_copy.specs.inside.Shifts.{MayCome, source, source_run, sources}
 pub use Rattle.overlap_copy.specs.inside.Sums.{AreForward, HasSum, max_reach, reach_of, stepping}
 pub use Rattle.overlap_copy.specs.inside.Trades.{traded_at}

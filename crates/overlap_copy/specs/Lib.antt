@@ -1,4 +1,5 @@
 pub mod Apart
+pub mod Copies
 pub mod OrderLaws
 pub mod Overlaps
 pub mod Runs

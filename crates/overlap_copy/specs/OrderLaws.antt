@@ -1,9 +1,10 @@
 -- Items that are written to disjoint places leave the same bytes in any order.
 --     with_items-reordered         items and their places
---     assigned-reordered           places, and the places that the items are copied from
+--     assigns-reordered            places, and the places that the items are copied from
 --     filled-reordered             one item at all places
 use Rattle.std.specs.Prelude.{◌≡◌, ◌≢◌, ◌+◌, ◌-◌, ◌<◌, ◌≤◌, ◌⊎◌, ℕ, List, [], ◌∷◌, map, length, All}
 use Rattle.std.proofs.Common.{inl, inr, zero, suc, get_or, replicate, refl, sym, ap, subst, ◌∙◌, arith}
+use Rattle.overlap_copy.specs.Copies.{ArePaired, Assigns}
 use Rattle.overlap_copy.specs.Words.{zip, swap, Each, IsPermutation, cases_lt, cases_eq, ext_get_or, get_or_default, length-map, get_or-map, length-replicate, length-swap, swapped_from_swap, All-head, All-tail, All-from_recursion, Contains-get_or, IsPermutation-map, IsPermutation-sym, IsPermutation-keeps, All-permutation, Contains-permutation, get_or-zip, length-zip, put, item_at, length-put, get_or-put_before, get_or-put_after, item_at-put_same, length-item_at, byte_of, IsNested, distance, items_at, with_items, assigned}
 
 -- ---- items, each with its place
@@ -160,15 +161,19 @@ zip-lie len width (at ∷ to) (offset ∷ from) other in_to in_from = (
   zip-lie len width to from other (All-tail (λ o. o + width ≤ len) at to in_to) (All-tail (λ o. o + width ≤ length other) offset from in_from),
 )
 
-pub assigned-reordered : (width : ℕ) (to from to' from' other block : List ℕ) → length from ≡ length to → IsNested to width → All (λ o. o + width ≤ length block) to → All (λ o. o + width ≤ length other) from →
+assigned-reordered : (width : ℕ) (to from to' from' other block : List ℕ) → IsNested to width → ArePaired to from width other block →
     IsPermutation (zip to from) (zip to' from') → assigned to' from' width other block ≡ assigned to from width other block
-assigned-reordered width to from to' from' other block long nested in_to in_from same =
+assigned-reordered width to from to' from' other block nested paired same =
     let item : ℕ × ℕ → Placed = λ p. (p.0, item_at p.1 width other) in
     let moved : IsPermutation (zip to (items_at from width other)) (zip to' (items_at from' width other)) =
     subst (λ l. IsPermutation l (zip to' (items_at from' width other))) (sym (zip-items to from width other))
     (subst (IsPermutation (map item (zip to from))) (sym (zip-items to' from' width other)) (IsPermutation-map item (zip to from) (zip to' from') same)) in
-    with_items-reordered width to (items_at from width other) to' (items_at from' width other) block (length-map from _ ∙ long) nested
-    (All-from_recursion (LiesIn (length block) width) (zip to (items_at from width other)) (zip-lie (length block) width to from other in_to in_from)) moved
+    with_items-reordered width to (items_at from width other) to' (items_at from' width other) block (length-map from _ ∙ paired.count) nested
+    (All-from_recursion (LiesIn (length block) width) (zip to (items_at from width other)) (zip-lie (length block) width to from other paired.to_in paired.from_in)) moved
+
+pub assigns-reordered : {to from to' from' other old new : List ℕ} {width : ℕ} → IsPermutation (zip to from) (zip to' from') → IsNested to width → ArePaired to from width other old → Assigns to' from' width other old new → Assigns to from width other old new
+assigns-reordered {to} {from} {to'} {from'} {other} {old} {new} {width} same nested paired assigns =
+    record { written = assigns.written ∙ assigned-reordered width to from to' from' other old nested paired same; len = assigns.len }
 
 -- ---- one item at all places
 

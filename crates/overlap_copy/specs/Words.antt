@@ -26,6 +26,7 @@ pub use Rattle.shape_strides.specs.Runs.{GoesBy, run_offsets}
 pub use Rattle.shape_strides.specs.Stacks.{IsStacked, axes, lengths_in, reach}
 pub use Rattle.shape_strides.specs.WalkLaws.{length-run_offsets}
 pub use Rattle.shape_strides.specs.declared.layout.Layout.{Layout}
+pub use Rattle.shape_strides.specs.declared.layout_pair.LayoutPair.{LayoutPair}
 pub use Rattle.shape_strides.specs.declared.run_pairs.RunPair.{RunPair}
 pub use Rattle.shape_strides.specs.declared.runs.Run.{Run}
 pub use Rattle.shape_strides.specs.declared.stacked.Axis.{Axis}

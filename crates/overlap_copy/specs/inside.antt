@@ -1,6 +1,7 @@
 pub mod Joins
 pub mod Marks
 pub mod Moves
+pub mod Overwrites
 pub mod Shifts
 pub mod Sums
 pub mod Trades

@@ -1,6 +1,6 @@
 //! Assignment: copies the items of one layout to another.
-ghost use Rattle.std.specs.Prelude.{◌≡◌, ◌+◌, ◌≤◌, ℤ, length, reverse, false, All, IfOk, IfErr, IfSome, IsOk, IsTrue};
-ghost use Rattle.overlap_copy.specs.Clauses.{IsPermutation, max_bytes, count, offsets, Fits, IsNested, item_pairs, assigned, AreApart, IsRun, have_common_byte};
+ghost use Rattle.std.specs.Prelude.{◌≡◌, length, false, IfOk, IfErr, IfSome, IsOk, IsTrue};
+ghost use Rattle.overlap_copy.specs.Clauses.{AreApart, ArePaired, AreReversed, AreRuns, Assigns, CanMove, Fits, IsNested, IsPermutation, assigned, item_pairs, max_bytes, offsets};
 
 use crate::apart::may_overlap;
 use crate::pair_copies::{
@@ -14,12 +14,8 @@ use std::alloc::{AllocError, Global};
 /// Copies the items, of `width` bytes, of the layout `src` in `other` to those of the layout `dst`,
 /// pair by pair in C order. Both have the same number of items.
 fn assign_in_order(block: &mut RawBlock, dst: &Layout, other: &RawBlock, src: &Layout, width: usize)
-    requires dst { All (λ offset. offset + width ≤ length block.old) (offsets dst.now) }
-    requires src { All (λ offset. offset + width ≤ length other.now) (offsets src.now) }
-    requires count { count dst.now.shape ≡ count src.now.shape }
-    ensures written { block.new
-        ≡ assigned (offsets dst.now) (offsets src.now) width other.now block.old }
-    ensures len { length block.new ≡ length block.old }
+    requires { ArePaired (offsets dst.now) (offsets src.now) width other.now block.old }
+    ensures { Assigns (offsets dst.now) (offsets src.now) width other.now block.old block.new }
 {
     if let Some(pair) = as_runs(dst, src) {
         copy_run(block, pair.first, other, pair.second, width);
@@ -48,12 +44,8 @@ pub fn in_any_order(alloc: Global, dst: &Layout, src: &Layout, width: usize) -> 
 /// both in C order. If the items of `dst` do not overlap, they are visited in the order of memory,
 /// with the same result.
 pub fn assign_from(block: &mut RawBlock, dst: &Layout, other: &RawBlock, src: &Layout, width: usize)
-    requires dst { All (λ offset. offset + width ≤ length block.old) (offsets dst.now) }
-    requires src { All (λ offset. offset + width ≤ length other.now) (offsets src.now) }
-    requires count { count dst.now.shape ≡ count src.now.shape }
-    ensures written { block.new
-        ≡ assigned (offsets dst.now) (offsets src.now) width other.now block.old }
-    ensures len { length block.new ≡ length block.old }
+    requires { ArePaired (offsets dst.now) (offsets src.now) width other.now block.old }
+    ensures { Assigns (offsets dst.now) (offsets src.now) width other.now block.old block.new }
 {
     match in_any_order(block.allocator(), dst, src, width) {
         Some(pair) => assign_in_order(block, &pair.target, other, &pair.source, width),
@@ -64,18 +56,13 @@ pub fn assign_from(block: &mut RawBlock, dst: &Layout, other: &RawBlock, src: &L
 /// Copies the items of `src` to those of `dst` within one block if both layouts are runs with the
 /// same step, or the same run in opposite directions. Returns whether they are.
 fn assign_runs(block: &mut RawBlock, dst: &Layout, src: &Layout, width: usize) -> bool
-    requires dst { Fits dst.now (length block.old) width }
-    requires src { Fits src.now (length block.old) width }
-    requires nested { IsNested (offsets dst.now) width }
-    requires count { count dst.now.shape ≡ count src.now.shape }
+    requires { CanMove dst.now src.now width block.old }
     ensures written { IsTrue result
         → block.new ≡ assigned (offsets dst.now) (offsets src.now) width block.old block.old }
     ensures kept { result ≡ false → block.new ≡ block.old }
     ensures len { length block.new ≡ length block.old }
-    ensures same_step { (step : ℤ) → IsRun step (offsets dst.now) → IsRun step (offsets src.now)
-        → IsTrue result }
-    ensures turned { (step other : ℤ) → IsRun step (offsets dst.now) → IsRun other (offsets src.now)
-        → offsets src.now ≡ reverse (offsets dst.now) → IsTrue result }
+    ensures runs { AreRuns dst.now src.now → IsTrue result }
+    ensures turned { AreReversed dst.now src.now → IsTrue result }
 {
     let Some(to) = dst.as_run() else {
         return false;
@@ -107,21 +94,16 @@ pub fn assign(
     src: &Layout,
     width: usize,
 ) -> Result<(), AllocError>
-    requires dst { Fits dst.now (length block.old) width }
-    requires src { Fits src.now (length block.old) width }
+    requires can { CanMove dst.now src.now width block.old }
     requires dst_small { Fits dst.now max_bytes width }
     requires src_small { Fits src.now max_bytes width }
-    requires nested { IsNested (offsets dst.now) width }
-    requires count { count dst.now.shape ≡ count src.now.shape }
     ensures written { IfOk result
         (λ _. block.new ≡ assigned (offsets dst.now) (offsets src.now) width block.old block.old) }
     ensures kept { IfErr result (λ _. block.new ≡ block.old) }
     ensures len { length block.new ≡ length block.old }
     ensures apart { AreApart dst.now width src.now width → IsOk result }
-    ensures runs { (step : ℤ) → IsRun step (offsets dst.now) → IsRun step (offsets src.now)
-        → IsOk result }
-    ensures turned { (step other : ℤ) → IsRun step (offsets dst.now) → IsRun other (offsets src.now)
-        → offsets src.now ≡ reverse (offsets dst.now) → IsOk result }
+    ensures runs { AreRuns dst.now src.now → IsOk result }
+    ensures turned { AreReversed dst.now src.now → IsOk result }
 {
     if !may_overlap(dst, width, src, width) {
         for pair in RunPairs::new(dst, src) {

@@ -1,6 +1,6 @@
 //! Exchanges items of two blocks in one pass.
-ghost use Rattle.std.specs.Prelude.{◌≡◌, ◌+◌, ◌≤◌, length, All};
-ghost use Rattle.overlap_copy.specs.Clauses.{count, offsets, IsNested, run_offsets, assigned, items_at, RunLies, traded_at};
+ghost use Rattle.std.specs.Prelude.{◌≡◌, length};
+ghost use Rattle.overlap_copy.specs.Clauses.{ArePaired, Assigns, IsNested, RunsLie, items_at, offsets, run_offsets, traded_at};
 
 use crate::pair_copies::as_runs;
 use arrays::strided;
@@ -9,9 +9,7 @@ use shape_strides::{Layout, Run, RunPairs, in_memory_order};
 
 /// Exchanges the items, of `width` bytes, of a run with those of a run of `other` that has as many.
 fn trade_run(block: &mut RawBlock, to: Run, other: &mut RawBlock, from: Run, width: usize)
-    requires count { to.count ≡ from.count }
-    requires to { RunLies (length block.old) width to }
-    requires from { RunLies (length other.old) width from }
+    requires { RunsLie to from width other.old block.old }
     ensures traded { (block.new, other.new)
         ≡ traded_at (run_offsets to) (run_offsets from) width (block.old, other.old) }
     ensures len { length block.new ≡ length block.old }
@@ -29,17 +27,11 @@ fn exchange_pairs(
     src: &Layout,
     width: usize,
 )
-    requires dst { All (λ offset. offset + width ≤ length block.old) (offsets dst.now) }
-    requires src { All (λ offset. offset + width ≤ length other.old) (offsets src.now) }
-    requires count { count dst.now.shape ≡ count src.now.shape }
+    requires paired { ArePaired (offsets dst.now) (offsets src.now) width other.old block.old }
     requires nested { IsNested (offsets dst.now) width }
     requires other_nested { IsNested (offsets src.now) width }
-    ensures written { block.new
-        ≡ assigned (offsets dst.now) (offsets src.now) width other.old block.old }
-    ensures old { other.new
-        ≡ assigned (offsets src.now) (offsets dst.now) width block.old other.old }
-    ensures len { length block.new ≡ length block.old }
-    ensures other_len { length other.new ≡ length other.old }
+    ensures to { Assigns (offsets dst.now) (offsets src.now) width other.old block.old block.new }
+    ensures from { Assigns (offsets src.now) (offsets dst.now) width block.old other.old other.new }
 {
     if let Some(pair) = as_runs(dst, src) {
         trade_run(block, pair.first, other, pair.second, width);
@@ -60,16 +52,12 @@ pub fn exchange(
     src: &Layout,
     width: usize,
 )
-    requires dst { All (λ offset. offset + width ≤ length block.old) (offsets dst.now) }
-    requires src { All (λ offset. offset + width ≤ length other.old) (offsets src.now) }
-    requires count { count dst.now.shape ≡ count src.now.shape }
+    requires paired { ArePaired (offsets dst.now) (offsets src.now) width other.old block.old }
     requires nested { IsNested (offsets dst.now) width }
     requires other_nested { IsNested (offsets src.now) width }
-    ensures written { block.new
-        ≡ assigned (offsets dst.now) (offsets src.now) width other.old block.old }
+    ensures to { Assigns (offsets dst.now) (offsets src.now) width other.old block.old block.new }
     ensures old { items_at (offsets src.now) width other.new
         ≡ items_at (offsets dst.now) width block.old }
-    ensures len { length block.new ≡ length block.old }
     ensures other_len { length other.new ≡ length other.old }
 {
     match in_memory_order(block.allocator(), dst, src) {

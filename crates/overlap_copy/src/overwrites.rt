@@ -1,6 +1,6 @@
 //! Writes items over others and keeps the old ones, in a single pass.
-ghost use Rattle.std.specs.Prelude.{◌≡◌, ◌+◌, ◌*◌, ◌++◌, ◌<◌, ◌≤◌, length, replicate, All, IfOk, IfErr};
-ghost use Rattle.overlap_copy.specs.Clauses.{BeginsWithin, IsNested, assigned, count, items_at, joined_at, max_items, multiples, offsets, run_offsets, with_items, RunLies};
+ghost use Rattle.std.specs.Prelude.{◌≡◌, ◌+◌, ◌++◌, ◌<◌, ◌≤◌, length, replicate, All, IfOk, IfErr};
+ghost use Rattle.overlap_copy.specs.Clauses.{ArePaired, BeginsWithin, CanOverwrite, IsNested, IsPacked, Overwrites, assigned, items_at, max_items, offsets, run_offsets, with_items};
 
 use arrays::{copy_run, push_run};
 use raw_block::{BlockBuilder, RawBlock};
@@ -46,15 +46,8 @@ fn overwrite_part(
     width: usize,
     kept: &mut BlockBuilder,
 )
-    requires count { pair.first.count ≡ pair.second.count }
-    requires to { RunLies (length block.old) width pair.first }
-    requires from { RunLies (length other.now) width pair.second }
-    requires room { pair.first.count * width ≤ kept.old.1 }
-    ensures written { block.new ≡ assigned
-        (run_offsets pair.first) (run_offsets pair.second) width other.now block.old }
-    ensures len { length block.new ≡ length block.old }
-    ensures old { kept.new.0 ≡ kept.old.0 ++ joined_at (run_offsets pair.first) width block.old }
-    ensures left { pair.first.count * width + kept.new.1 ≡ kept.old.1 }
+    requires { CanOverwrite pair width other.now block.old kept.old }
+    ensures { Overwrites pair width other.now (block.old, kept.old) (block.new, kept.new) }
 {
     push_run(kept, block, pair.first, width);
     copy_run(block, pair.first, other, pair.second, width);
@@ -68,18 +61,9 @@ fn overwrite_run(
     width: usize,
     kept: &mut BlockBuilder,
 )
-    requires count { pair.first.count ≡ pair.second.count }
-    requires begins { BeginsWithin pair.first }
-    requires other_begins { BeginsWithin pair.second }
-    requires to { All (λ offset. offset + width ≤ length block.old) (run_offsets pair.first) }
-    requires from { All (λ offset. offset + width ≤ length other.now) (run_offsets pair.second) }
+    requires can { CanOverwrite pair width other.now block.old kept.old }
     requires nested { IsNested (run_offsets pair.first) width }
-    requires room { pair.first.count * width ≤ kept.old.1 }
-    ensures written { block.new ≡ assigned
-        (run_offsets pair.first) (run_offsets pair.second) width other.now block.old }
-    ensures len { length block.new ≡ length block.old }
-    ensures old { kept.new.0 ≡ kept.old.0 ++ joined_at (run_offsets pair.first) width block.old }
-    ensures left { pair.first.count * width + kept.new.1 ≡ kept.old.1 }
+    ensures { Overwrites pair width other.now (block.old, kept.old) (block.new, kept.new) }
 {
     let mut left = pair;
     while left.first.count > PART {
@@ -104,16 +88,12 @@ pub fn overwrite(
     src: &Layout,
     width: usize,
 ) -> Result<RawBlock, AllocError>
-    requires dst { All (λ offset. offset + width ≤ length block.old) (offsets dst.now) }
-    requires src { All (λ offset. offset + width ≤ length other.now) (offsets src.now) }
-    requires count { count dst.now.shape ≡ count src.now.shape }
+    requires paired { ArePaired (offsets dst.now) (offsets src.now) width other.now block.old }
     requires nested { IsNested (offsets dst.now) width }
     ensures written { IfOk result (λ _. block.new
         ≡ assigned (offsets dst.now) (offsets src.now) width other.now block.old) }
-    ensures len { IfOk result (λ items. length items ≡ length (offsets dst.now) * width) }
-    ensures old { IfOk result
-        (λ items. items_at (multiples width (length (offsets dst.now))) width items
-        ≡ items_at (offsets dst.now) width block.old) }
+    ensures old { IfOk result (IsPacked (length (offsets dst.now)) width
+        (items_at (offsets dst.now) width block.old)) }
     ensures kept { IfErr result (λ _. block.new ≡ block.old) }
 {
     // More bytes than a block can have are refused like any others that cannot be allocated.
@@ -152,11 +132,8 @@ pub fn overwrite_each(
     requires nested { IsNested (offsets dst.now) (length item.now) }
     ensures written { IfOk result (λ _. block.new ≡ with_items
         (offsets dst.now) (replicate (length (offsets dst.now)) item.now) block.old) }
-    ensures len { IfOk result
-        (λ items. length items ≡ length (offsets dst.now) * length item.now) }
-    ensures old { IfOk result (λ items.
-        items_at (multiples (length item.now) (length (offsets dst.now))) (length item.now) items
-        ≡ items_at (offsets dst.now) (length item.now) block.old) }
+    ensures old { IfOk result (IsPacked (length (offsets dst.now)) (length item.now)
+        (items_at (offsets dst.now) (length item.now) block.old)) }
     ensures kept { IfErr result (λ _. block.new ≡ block.old) }
 {
     let alloc = block.allocator();

@@ -1,6 +1,6 @@
 //! Pairs of runs: copies or moves the items of the second run to the first.
 ghost use Rattle.std.specs.Prelude.{IfSome, IsTrue, length, neg_ℤ, pos, ◌*ℤ◌, ◌*◌, ◌+ℤ◌, ◌↔◌, ◌≡◌, ◌≤ℤ◌, ◌≤◌};
-ghost use Rattle.overlap_copy.specs.Clauses.{BeginsWithin, IsNested, assigned, copied_within, max_bytes, max_items, offsets, run_offsets, AreAlike, IsAssigned, IsLine, IsTurned, LieApart, RunLies, place_in};
+ghost use Rattle.overlap_copy.specs.Clauses.{AreAlike, Assigns, BeginsWithin, CanMoveRun, IsAssigned, IsLine, IsNested, IsTurned, LieApart, RunLies, RunsLie, copied_within, max_bytes, offsets, place_in, run_offsets};
 
 use arrays::strided;
 use raw_block::RawBlock;
@@ -21,9 +21,7 @@ pub(crate) fn as_runs(first: &Layout, second: &Layout) -> Option<RunPair>
 /// Copies the items, of `width` bytes, of a run to another run of the same block that has as many,
 /// one after the other. Where the two overlap, an item is read as earlier copies left it.
 fn copy_one_by_one(block: &mut RawBlock, to: Run, from: Run, width: usize)
-    requires count { to.count ≡ from.count }
-    requires to { RunLies (length block.old) width to }
-    requires from { RunLies (length block.old) width from }
+    requires { RunsLie to from width block.old block.old }
     ensures copied { block.new
         ≡ copied_within to.offset to.step from.offset from.step width to.count block.old }
     ensures len { length block.new ≡ length block.old }
@@ -34,14 +32,10 @@ fn copy_one_by_one(block: &mut RawBlock, to: Run, from: Run, width: usize)
 /// Copies the items, of `width` bytes, of a run to another run of the same block that has as many.
 /// The two share no byte.
 pub(crate) fn move_apart(block: &mut RawBlock, to: Run, from: Run, width: usize)
-    requires count { to.count ≡ from.count }
-    requires to { RunLies (length block.old) width to }
-    requires from { RunLies (length block.old) width from }
+    requires lie { RunsLie to from width block.old block.old }
     requires nested { IsNested (run_offsets to) width }
     requires apart { LieApart width (run_offsets to) (run_offsets from) }
-    ensures written { block.new
-        ≡ assigned (run_offsets to) (run_offsets from) width block.old block.old }
-    ensures len { length block.new ≡ length block.old }
+    ensures { Assigns (run_offsets to) (run_offsets from) width block.old block.old block.new }
 {
     if to.count > 0 && to.is_packed(width) && from.is_packed(width) {
         // For the prover alone: the block is within its limit.
@@ -112,18 +106,8 @@ fn move_forth(block: &mut RawBlock, to: Run, from: Run, width: usize)
 
 /// Moves the items of a run to another run with the same step, whatever bytes they share.
 pub(crate) fn move_run(block: &mut RawBlock, to: Run, from: Run, width: usize)
-    requires some { 1 ≤ to.count }
-    requires few { to.count ≤ max_items }
-    requires count { from.count ≡ to.count }
-    requires step { from.step ≡ to.step }
-    requires to_limit { BeginsWithin to }
-    requires from_limit { BeginsWithin from }
-    requires to { RunLies (length block.old) width to }
-    requires from { RunLies (length block.old) width from }
-    requires nested { IsNested (run_offsets to) width }
-    ensures written { block.new
-        ≡ assigned (run_offsets to) (run_offsets from) width block.old block.old }
-    ensures len { length block.new ≡ length block.old }
+    requires { CanMoveRun to from width block.old }
+    ensures { Assigns (run_offsets to) (run_offsets from) width block.old block.old block.new }
 {
     if to.count < 2 {
         block.move_within(to.offset, from.offset, width);
@@ -141,9 +125,7 @@ pub(crate) fn turn_run(block: &mut RawBlock, run: Run, back: Run, width: usize)
     requires run { RunLies (length block.old) width run }
     requires back { IsTurned run back }
     requires nested { IsNested (run_offsets run) width }
-    ensures written { block.new
-        ≡ assigned (run_offsets run) (run_offsets back) width block.old block.old }
-    ensures len { length block.new ≡ length block.old }
+    ensures { Assigns (run_offsets run) (run_offsets back) width block.old block.old block.new }
 {
     let half = Run {
         count: run.count / 2,

@@ -1,6 +1,6 @@
 //! Assignment between layouts of the same shape and strides, without memory.
 ghost use Rattle.std.specs.Prelude.{◌≡◌, ◌+◌, ◌≤◌, length};
-ghost use Rattle.overlap_copy.specs.Clauses.{max_bytes, offsets, Fits, IsStacked, assigned, source_run};
+ghost use Rattle.overlap_copy.specs.Clauses.{Assigns, Fits, IsStacked, max_bytes, offsets, source_run};
 
 use crate::pair_copies::move_run;
 use raw_block::RawBlock;
@@ -30,9 +30,7 @@ pub fn assign_shifted(block: &mut RawBlock, dst: &Layout, src: &Layout, width: u
     requires shape { src.now.shape ≡ dst.now.shape }
     requires strides { src.now.strides ≡ dst.now.strides }
     requires stacked { IsStacked dst.now width }
-    ensures written { block.new
-        ≡ assigned (offsets dst.now) (offsets src.now) width block.old block.old }
-    ensures len { length block.new ≡ length block.old }
+    ensures { Assigns (offsets dst.now) (offsets src.now) width block.old block.old block.new }
 {
     let down = src.offset < dst.offset;
     let order = AddressOrder::new(dst, down);

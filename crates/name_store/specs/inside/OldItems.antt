@@ -1,6 +1,6 @@
 -- Old items, which are adjacent in a block of their own.
-use Rattle.std.specs.Prelude.{◌≡◌, ◌*◌, ℕ, List, length, Option, Some}
-use Rattle.name_store.specs.Words.{IsPermutation, option_map, multiples, items_at}
+use Rattle.std.specs.Prelude.{◌≡◌, ℕ, List, length, Option, Some}
+use Rattle.name_store.specs.Words.{IsPacked, IsPermutation, option_map, items_at}
 use Rattle.name_store.specs.Invariants.{users_at}
 use Rattle.name_store.specs.Targets.{target_offsets}
 use Rattle.name_store.specs.View.{slot_at}
@@ -14,8 +14,7 @@ use Rattle.name_store.specs.inside.Held.{stand}
 -- `o` has the items of `width` bytes that a block has at the offsets `os`, in this order
 pub record AreOld (width : ℕ) (block os : List ℕ) (o : OldItems) : Type 0 where
   pub size : o.width ≡ width
-  pub whole : length o.block ≡ length os * o.width
-  pub bytes : items_at (multiples o.width (length os)) o.width o.block ≡ items_at os width block
+  pub packed : IsPacked (length os) o.width (items_at os width block) o.block
 
 -- `over` has the items of a block at the places of a target, and these places in the same order, which may be another
 -- order than the target's

@@ -1,10 +1,16 @@
 -- Moves of items, by index: the k-th item is copied from one place to another.
 use Rattle.std.specs.Prelude.{◌≡◌, ℕ, ◌+◌, ◌-◌, ◌<◌, ◌≤◌, ◌⊎◌, pos, neg_ℤ, ◌+ℤ◌, ◌*ℤ◌, List, [], ◌∷◌, length, slice_index}
-use Rattle.overlap_copy.specs.Words.{flat_map, Each, EachWithin, item_at, place, Run, RunPair, run_offsets, max_items, LieWithin, distance}
+use Rattle.overlap_copy.specs.Words.{BeginsWithin, IsNested, flat_map, Each, EachWithin, item_at, place, Run, RunPair, run_offsets, max_items, LieWithin, distance}
 
 -- the items of a run, of `width` bytes, lie within `len` bytes
 abbrev pub RunLies : ℕ → ℕ → Run → Type 0
 RunLies len width run = EachWithin len run.offset run.step width run.count
+
+-- there are as many items in the run `to` as in the run `from`, and they lie within `block` and within `other`
+pub record RunsLie (to from : Run) (width : ℕ) (other block : List ℕ) : Type 0 where
+  pub count : to.count ≡ from.count
+  pub to_in : RunLies (length block) width to
+  pub from_in : RunLies (length other) width from
 
 -- the offsets of the first runs of the pairs, and of the second runs
 abbrev pub firsts : List RunPair → List ℕ
@@ -52,6 +58,16 @@ pub record AreAlike (len width : ℕ) (to from : Run) : Type 0 where
   pub to_in : EachWithin len to.offset to.step width to.count
   pub from_in : EachWithin len from.offset from.step width to.count
   pub spaced : AreSpaced width to
+
+-- the items of a run can be moved to another run with the same step, in one block
+pub record CanMoveRun (to from : Run) (width : ℕ) (block : List ℕ) : Type 0 where
+  pub lie : RunsLie to from width block block
+  pub some : 1 ≤ to.count
+  pub few : to.count ≤ max_items
+  pub step : from.step ≡ to.step
+  pub to_limit : BeginsWithin to
+  pub from_limit : BeginsWithin from
+  pub nested : IsNested (run_offsets to) width
 
 -- the item at offset `at` shares no byte with the items at the offsets `from`
 abbrev pub LiesApart : ℕ → ℕ → List ℕ → Type 0

@@ -1,6 +1,7 @@
 use Rattle.std.proofs.Common.{◌≡◌, ◌*◌, ◌++◌, length, sym, ap, subst, ◌∙◌, All, ◌+◌, ◌≤◌, refl, arith}
-use Rattle.overlap_copy.proofs.Words.{both_ways, max_bytes, offsets, multiples, length-offsets, offsets_within, walked-within, with_items, assigned, LieApart, firsts, seconds, All-rest, EachWithin, IsNested, run_offsets, length-run_offsets, next_pair}
+use Rattle.overlap_copy.proofs.Words.{both_ways, max_bytes, offsets, multiples, walked-within, with_items, assigned, LieApart, firsts, seconds, All-rest, EachWithin, IsNested, run_offsets, length-run_offsets, next_pair}
 use Rattle.overlap_copy.proofs.AssignLaws.{lie_apart}
+use Rattle.overlap_copy.proofs.PairCopies.{move-paired, same-count}
 use Rattle.overlap_copy.proofs.MovingLaws.{IsMoving, moving_begins, moving_on, nested-front, nested-back, fewer-targets, fewer-sources}
 use Rattle.overlap_copy.proofs.assignment.assign.Goals as goal
 
@@ -11,29 +12,32 @@ loop-pair-init c =
     let src = c.args.src.now in
     let len = length c.args.block.now in
     let width = c.args.width in
-    let to_in = offsets_within dst len width c.requires.dst in
-    let from_in = offsets_within src len width c.requires.src in
+    let paired = move-paired c.requires.can in
     let apart = lie_apart width (offsets dst) (offsets src) (c.may_overlap.ensures.sound c.if-not-may_overlap.true) in
     rw (c.into_iter-pair-iterator.ensures.into_iter_gives, new.pairs) (record {
-      moving = rw (new.first, new.second) (moving_begins (offsets dst) (offsets src) width c.args.block.now to_in from_in);
+      moving = rw (new.first, new.second) (moving_begins (offsets dst) (offsets src) width c.args.block.now paired.to_in paired.from_in);
       counts = new.counts;
-      to = walked-within len width (λ pair. pair.first) _ _ _ refl (new.first_lie max_bytes 1 dst.within_limit) new.first to_in;
-      from = walked-within len width (λ pair. pair.second) _ _ _ refl (new.second_lie max_bytes 1 src.within_limit) new.second from_in;
-      nested = rw new.first c.requires.nested;
+      to = walked-within len width (λ pair. pair.first) _ _ _ refl (new.first_lie max_bytes 1 dst.within_limit) new.first paired.to_in;
+      from = walked-within len width (λ pair. pair.second) _ _ _ refl (new.second_lie max_bytes 1 src.within_limit) new.second paired.from_in;
+      nested = rw new.first c.requires.can.nested;
       apart = rw (new.first, new.second) apart;
     })
 
-pub move_apart-requires-clause-to : goal.move_apart-requires-clause-to
-move_apart-requires-clause-to c =
-    let run = c.in-Some.pair.first in
-    subst (λ n. EachWithin n run.offset run.step c.args.width run.count) (sym c.loop-pair.invariant.moving.len)
-    (next_pair (λ p. EachWithin (length c.args.block.now) p.first.offset p.first.step c.args.width p.first.count) _ _ _ c.in-Some.ensures.steps c.loop-pair.invariant.to)
+pub new-pair-items-requires : goal.new-pair-items-requires
+new-pair-items-requires c = same-count c.args.dst.now c.args.src.now c.requires.can.count
 
-pub move_apart-requires-clause-from : goal.move_apart-requires-clause-from
-move_apart-requires-clause-from c =
-    let run = c.in-Some.pair.second in
-    subst (λ n. EachWithin n run.offset run.step c.args.width run.count) (sym c.loop-pair.invariant.moving.len)
-    (next_pair (λ p. EachWithin (length c.args.block.now) p.second.offset p.second.step c.args.width p.second.count) _ _ _ c.in-Some.ensures.steps c.loop-pair.invariant.from)
+pub move_apart-requires-clause-lie : goal.move_apart-requires-clause-lie
+move_apart-requires-clause-lie c =
+    let inv = c.loop-pair.invariant in
+    let len = length c.args.block.now in
+    let next = c.in-Some.ensures.steps in
+    let to = c.in-Some.pair.first in
+    let from = c.in-Some.pair.second in
+    record {
+      count = next_pair (λ p. p.first.count ≡ p.second.count) _ _ _ next inv.counts;
+      to_in = subst (λ n. EachWithin n to.offset to.step c.args.width to.count) (sym inv.moving.len) (next_pair (λ p. EachWithin len p.first.offset p.first.step c.args.width p.first.count) _ _ _ next inv.to);
+      from_in = subst (λ n. EachWithin n from.offset from.step c.args.width from.count) (sym inv.moving.len) (next_pair (λ p. EachWithin len p.second.offset p.second.step c.args.width p.second.count) _ _ _ next inv.from);
+    }
 
 pub move_apart-requires-clause-nested : goal.move_apart-requires-clause-nested
 move_apart-requires-clause-nested c =
@@ -60,7 +64,7 @@ loop-pair-preserved c =
     let even = length-run_offsets pair.first ∙ next_pair (λ p. p.first.count ≡ p.second.count) _ _ _ steps inv.counts ∙ sym (length-run_offsets pair.second) in
     let both = fewer-targets width to (firsts left) (from ++ seconds left) (subst (λ l. LieApart width (firsts l) (seconds l)) steps inv.apart) in
     record {
-      moving = moving_on to (firsts left) from (seconds left) width c.args.block.now c.loop-pair.block c.move_apart.new.block _ even (fewer-sources width to from (seconds left) both.0).1 c.move_apart.ensures.written c.move_apart.ensures.len
+      moving = moving_on to (firsts left) from (seconds left) width c.args.block.now c.loop-pair.block c.move_apart.new.block _ even (fewer-sources width to from (seconds left) both.0).1 c.move_apart.ensures
           (subst (λ l. IsMoving (firsts l) (seconds l) width c.args.block.now c.loop-pair.block (assigned (offsets c.args.dst.now) (offsets c.args.src.now) width c.args.block.now c.args.block.now)) steps inv.moving);
       counts = All-rest (λ p. p.first.count ≡ p.second.count) _ _ _ steps inv.counts;
       to = All-rest (λ p. EachWithin len p.first.offset p.first.step width p.first.count) _ _ _ steps inv.to;
@@ -70,22 +74,20 @@ loop-pair-preserved c =
     }
 
 pub gather-requires : goal.gather-requires
-gather-requires c = subst (λ n. All (λ offset. offset + c.args.width ≤ n) (offsets c.args.src.now)) (sym c.assign_runs.ensures.len) (offsets_within c.args.src.now (length c.args.block.now) c.args.width c.requires.src)
+gather-requires c = subst (λ n. All (λ offset. offset + c.args.width ≤ n) (offsets c.args.src.now)) (sym c.assign_runs.ensures.len) (move-paired c.requires.can).from_in
 
 pub returns-in_err-items-clause-runs : goal.returns-in_err-items-clause-runs
-returns-in_err-items-clause-runs c = λ step run run'. absurd (both_ways c.assign_runs.result c.if-assign_runs.false (c.assign_runs.ensures.same_step step run run'))
+returns-in_err-items-clause-runs c = λ are. absurd (both_ways c.assign_runs.result c.if-assign_runs.false (c.assign_runs.ensures.runs are))
 
 pub returns-in_err-items-clause-turned : goal.returns-in_err-items-clause-turned
-returns-in_err-items-clause-turned c = λ step other run run' are. absurd (both_ways c.assign_runs.result c.if-assign_runs.false (c.assign_runs.ensures.turned step other run run' are))
+returns-in_err-items-clause-turned c = λ are. absurd (both_ways c.assign_runs.result c.if-assign_runs.false (c.assign_runs.ensures.turned are))
 
 pub scatter-requires-clause-inside : goal.scatter-requires-clause-inside
 scatter-requires-clause-inside c =
-    subst (λ n. All (λ offset. offset + c.args.width ≤ n) (offsets c.args.dst.now)) (sym c.assign_runs.ensures.len) (offsets_within c.args.dst.now (length c.args.block.now) c.args.width c.requires.dst)
+    subst (λ n. All (λ offset. offset + c.args.width ≤ n) (offsets c.args.dst.now)) (sym c.assign_runs.ensures.len) (move-paired c.requires.can).to_in
 
 pub scatter-requires-clause-items : goal.scatter-requires-clause-items
-scatter-requires-clause-items c =
-    let even : length (offsets c.args.dst.now) ≡ length (offsets c.args.src.now) = length-offsets c.args.dst.now ∙ c.requires.count ∙ sym (length-offsets c.args.src.now) in
-    omega (arith, ap (λ n. n * c.args.width) even, c.in_ok-items.ensures.len)
+scatter-requires-clause-items c = omega (arith, ap (λ n. n * c.args.width) c.requires.can.count, c.in_ok-items.ensures.len)
 
 pub returns-clause-written : goal.returns-clause-written
 returns-clause-written c =
@@ -94,8 +96,7 @@ returns-clause-written c =
     let width = c.args.width in
     let items = c.in_ok-items.items in
     let block = c.assign_runs.new.block in
-    let even : length to ≡ length from = length-offsets c.args.dst.now ∙ c.requires.count ∙ sym (length-offsets c.args.src.now) in
     c.scatter.ensures.written
-    ∙ ap (λ n. assigned to (multiples width n) width items block) even
+    ∙ ap (λ n. assigned to (multiples width n) width items block) (sym c.requires.can.count)
     ∙ ap (λ all. with_items to all block) c.in_ok-items.ensures.items
     ∙ ap (λ b. assigned to from width b b) (c.assign_runs.ensures.kept c.if-assign_runs.false)

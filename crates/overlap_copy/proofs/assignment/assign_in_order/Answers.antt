@@ -1,17 +1,16 @@
 use Rattle.std.proofs.Common.{◌≡◌, length, refl, sym, subst, ◌∙◌}
 use Rattle.overlap_copy.proofs.Words.{max_bytes, All-rest, EachWithin, next_pair, offsets, assigned, walked-within}
-use Rattle.overlap_copy.proofs.PairCopies.{as_many, one-within, copied-pair}
+use Rattle.overlap_copy.proofs.PairCopies.{copied-pair, runs-lie, same-count}
 use Rattle.overlap_copy.proofs.assignment.assign_in_order.Goals as goal
 
 pub copy_run-requires : goal.copy_run-requires
 copy_run-requires c =
-    let pair = c.in-Some.pair in
     let found = c.in-Some.ensures in
-    record {
-      count = as_many c.args.dst.now c.args.src.now pair.first pair.second c.requires.count found.first found.second;
-      to = one-within (length c.args.block.now) c.args.width pair.first (offsets c.args.dst.now) found.first_lies found.first c.requires.dst;
-      from = one-within (length c.args.other.now) c.args.width pair.second (offsets c.args.src.now) found.second_lies found.second c.requires.src;
-    }
+    let lie = runs-lie c.in-Some.pair.first c.in-Some.pair.second found.first found.second found.first_lies found.second_lies c.requires in
+    record { count = lie.count; to = lie.to_in; from = lie.from_in }
+
+pub new-pair-items-requires : goal.new-pair-items-requires
+new-pair-items-requires c = same-count c.args.dst.now c.args.src.now c.requires.count
 
 pub loop-pair-init : goal.loop-pair-init
 loop-pair-init c =
@@ -20,8 +19,8 @@ loop-pair-init c =
       rest = λ i. assigned (new.first i) (new.second i) c.args.width c.args.other.now c.args.block.now;
       len = refl;
       counts = new.counts;
-      to = walked-within (length c.args.block.now) c.args.width (λ pair. pair.first) _ _ _ refl (new.first_lie max_bytes 1 c.args.dst.now.within_limit) new.first c.requires.dst;
-      from = walked-within (length c.args.other.now) c.args.width (λ pair. pair.second) _ _ _ refl (new.second_lie max_bytes 1 c.args.src.now.within_limit) new.second c.requires.src;
+      to = walked-within (length c.args.block.now) c.args.width (λ pair. pair.first) _ _ _ refl (new.first_lie max_bytes 1 c.args.dst.now.within_limit) new.first c.requires.to_in;
+      from = walked-within (length c.args.other.now) c.args.width (λ pair. pair.second) _ _ _ refl (new.second_lie max_bytes 1 c.args.src.now.within_limit) new.second c.requires.from_in;
     })
 
 pub copy_run-requires-in-loop-pair : goal.copy_run-requires-in-loop-pair

@@ -12,4 +12,4 @@ returns-clause-traded c =
     c.trade_strided.ensures.traded
     ∙ (λ i. traded (a i).steps.at (a i).steps.step (b i).steps.at (b i).steps.step (b i).width (b i).count c.args.block.now c.args.other.now)
     ∙ (λ i. traded to.offset to.step from.offset from.step c.args.width (sym c.requires.count i) c.args.block.now c.args.other.now)
-    ∙ traded-even _ _ _ _ _ c.requires.count c.requires.to c.requires.from
+    ∙ traded-even c.requires

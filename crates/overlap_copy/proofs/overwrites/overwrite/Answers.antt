@@ -1,9 +1,13 @@
-use Rattle.std.proofs.Common.{◌≡◌, ◌+◌, ◌*◌, ◌≤◌, [], List, ℕ, length, refl, sym, ap, subst, ◌∙◌, append-nil, arith}
-use Rattle.overlap_copy.proofs.Words.{All-rest, max_bytes, BeginsWithin, IsNested, run_offsets, next_pair, offsets, multiples, length-offsets, items_at, length-joined_at, joined-items, firsts, seconds}
+use Rattle.std.proofs.Common.{◌≡◌, ◌*◌, [], List, ℕ, length, sym, ap, subst, ◌∙◌, append-nil, arith}
+use Rattle.overlap_copy.proofs.Words.{All-rest, ArePaired, max_bytes, BeginsWithin, IsNested, run_offsets, next_pair, offsets, multiples, length-offsets, items_at, length-joined_at, joined-items, firsts, seconds}
 use Rattle.overlap_copy.proofs.MovingLaws.{nested-front}
-use Rattle.overlap_copy.proofs.OverwriteLaws.{overwritten, left-on, next-all, next-room}
+use Rattle.overlap_copy.proofs.OverwriteLaws.{overwritten, left-on, next-can}
+use Rattle.overlap_copy.proofs.PairCopies.{same-count}
 use Rattle.overlap_copy.proofs.overwrites.overwrite.Goals as goal
 use Rattle.overlap_copy.proofs.overwrites.overwrite.Goals.{After-finish}
+
+pub new-pair-items-requires : goal.new-pair-items-requires
+new-pair-items-requires c = same-count c.args.dst.now c.args.src.now c.requires.paired.count
 
 pub loop-pair-init : goal.loop-pair-init
 loop-pair-init c =
@@ -13,12 +17,10 @@ loop-pair-init c =
     rw (c.into_iter-pair-iterator.ensures.into_iter_gives, new.pairs) (record {
       left = record {
         nested = rw new.first c.requires.nested;
-        to_in = rw new.first c.requires.dst;
-        from_in = rw new.second c.requires.src;
+        paired = rw (new.first, new.second) c.requires.paired;
         rest = λ i. overwritten (new.first i) (new.second i) c.args.width c.args.other.now c.args.block.now (c.in_ok-kept.ensures i).0;
         fills = omega (arith, room, ap (λ p. p.1) c.in_ok-kept.ensures, c.saturating_mul-bytes.ensures, c.filled-filled.ensures.small);
       };
-      len = refl;
       counts = new.counts;
       begin = new.first_lie max_bytes 1 c.args.dst.now.within_limit;
       other_begin = new.second_lie max_bytes 1 c.args.src.now.within_limit;
@@ -28,29 +30,19 @@ pub overwrite_run-requires : goal.overwrite_run-requires
 overwrite_run-requires c =
     let inv = c.loop-pair.invariant in
     let steps = c.in-Some.ensures.steps in
-    let pair = c.in-Some.pair in
-    let left = c.next.new.self in
-    let width = c.args.width in
     record {
-      count = next_pair (λ p. p.first.count ≡ p.second.count) _ _ _ steps inv.counts;
-      begins = next_pair (λ p. BeginsWithin p.first) _ _ _ steps inv.begin;
-      other_begins = next_pair (λ p. BeginsWithin p.second) _ _ _ steps inv.other_begin;
-      to = next-all (λ o. o + width ≤ length c.loop-pair.block) _ _ _ (ap firsts (sym steps)) inv.left.to_in;
-      from = next-all (λ o. o + width ≤ length c.args.other.now) _ _ _ (ap seconds (sym steps)) inv.left.from_in;
-      nested = nested-front (run_offsets pair.first) (firsts left) width (subst (λ l. IsNested (firsts l) width) steps inv.left.nested);
-      room = next-room pair.first (firsts left) _ width _ c.loop-pair.kept.1 (ap firsts (sym steps)) inv.left.fills;
+      can = next-can c.in-Some.pair _ _ _ _ c.args.width c.args.other.now (c.loop-pair.block, c.loop-pair.kept) _ _ (ap firsts (sym steps)) (ap seconds (sym steps)) (next_pair (λ p. p.first.count ≡ p.second.count) _ _ _ steps inv.counts)
+          (next_pair (λ p. BeginsWithin p.first) _ _ _ steps inv.begin) (next_pair (λ p. BeginsWithin p.second) _ _ _ steps inv.other_begin) inv.left;
+      nested = nested-front (run_offsets c.in-Some.pair.first) (firsts c.next.new.self) c.args.width (subst (λ l. IsNested (firsts l) c.args.width) steps inv.left.nested);
     }
 
 pub loop-pair-preserved : goal.loop-pair-preserved
 loop-pair-preserved c =
     let inv = c.loop-pair.invariant in
     let steps = c.in-Some.ensures.steps in
-    let pair = c.in-Some.pair in
-    let run = c.overwrite_run.ensures in
     record {
-      left = left-on pair.first pair.second _ _ _ _ c.args.width c.args.other.now c.loop-pair.block _ c.loop-pair.kept.0 _ c.loop-pair.kept.1 _ _ _ (ap firsts (sym steps)) (ap seconds (sym steps))
-          (next_pair (λ p. p.first.count ≡ p.second.count) _ _ _ steps inv.counts) run.written run.len run.old run.left inv.left;
-      len = run.len ∙ inv.len;
+      left = left-on c.in-Some.pair _ _ _ _ c.args.width c.args.other.now (c.loop-pair.block, c.loop-pair.kept) _ _ _ (ap firsts (sym steps)) (ap seconds (sym steps)) (next_pair (λ p. p.first.count ≡ p.second.count) _ _ _ steps inv.counts)
+          c.overwrite_run.ensures inv.left;
       counts = All-rest (λ p. p.first.count ≡ p.second.count) _ _ _ steps inv.counts;
       begin = All-rest (λ p. BeginsWithin p.first) _ _ _ steps inv.begin;
       other_begin = All-rest (λ p. BeginsWithin p.second) _ _ _ steps inv.other_begin;
@@ -70,11 +62,12 @@ finish-requires c = omega (arith, ap (λ l. length (firsts l) * c.args.width) c.
 pub returns-clause-written : goal.returns-clause-written
 returns-clause-written c = ap (λ p. p.0) (all_done (goal.at.returns-clause-written c).After-finish)
 
-pub returns-clause-len : goal.returns-clause-len
-returns-clause-len c = ap (λ p. length p.1) (all_done (goal.at.returns-clause-len c).After-finish) ∙ length-joined_at c.args.width (offsets c.args.dst.now) c.args.block.now c.requires.dst
-
 pub returns-clause-old : goal.returns-clause-old
 returns-clause-old c =
     let os = offsets c.args.dst.now in
     let width = c.args.width in
-    ap (λ p. items_at (multiples width (length os)) width p.1) (all_done (goal.at.returns-clause-old c).After-finish) ∙ joined-items width os c.args.block.now c.requires.dst
+    let done = all_done (goal.at.returns-clause-old c).After-finish in
+    record {
+      long = ap (λ p. length p.1) done ∙ length-joined_at width os c.args.block.now c.requires.paired.to_in;
+      items = ap (λ p. items_at (multiples width (length os)) width p.1) done ∙ joined-items width os c.args.block.now c.requires.paired.to_in;
+    }

@@ -6,8 +6,7 @@ use Rattle.overlap_copy.proofs.overwrites.overwrite.Given as goal
 -- the remaining pairs complete what all pairs do
 abbrev pub invariant-loop-pair : goal.invariant-loop-pair
 invariant-loop-pair l = record {
-  left : IsLeft (firsts l.pair-iterator) (seconds l.pair-iterator) l.width l.other l.block l.kept.0 l.kept.1 (overwritten (offsets l.dst) (offsets l.src) l.width l.other l.fn.block []) 0;
-  len : length l.block ≡ length l.fn.block;
+  left : IsLeft (firsts l.pair-iterator) (seconds l.pair-iterator) l.width l.other (l.block, l.kept) (overwritten (offsets l.dst) (offsets l.src) l.width l.other l.fn.block []) 0;
   counts : All (λ pair. pair.first.count ≡ pair.second.count) l.pair-iterator;
   begin : All (λ pair. BeginsWithin pair.first) l.pair-iterator;
   other_begin : All (λ pair. BeginsWithin pair.second) l.pair-iterator;

@@ -6,7 +6,7 @@ use Rattle.overlap_copy.proofs.overwrites.overwrite_run.Given as goal
 -- the rest of the run completes what the whole run does
 abbrev pub invariant-loop-left : goal.invariant-loop-left
 invariant-loop-left l = record {
-  left : IsLeft (run_offsets l.left.first) (run_offsets l.left.second) l.width l.other l.block l.kept.0 l.kept.1
+  left : IsLeft (run_offsets l.left.first) (run_offsets l.left.second) l.width l.other (l.block, l.kept)
       (overwritten (run_offsets l.fn.pair.first) (run_offsets l.fn.pair.second) l.width l.other l.fn.block l.fn.kept.0) (l.fn.kept.1 - length (run_offsets l.fn.pair.first) * l.width);
   len : length l.block ≡ length l.fn.block;
   count : l.left.first.count ≡ l.left.second.count;

@@ -33,7 +33,7 @@ pub copy_one_by_one-requires : goal.copy_one_by_one-requires
 copy_one_by_one-requires c =
     let from = c.args.from in
     let even = sym c.requires.alike.count in
-    record { count = even; to = c.requires.alike.to_in; from = subst (EachWithin (length c.args.block.now) from.offset from.step c.args.width) even c.requires.alike.from_in }
+    record { count = even; to_in = c.requires.alike.to_in; from_in = subst (EachWithin (length c.args.block.now) from.offset from.step c.args.width) even c.requires.alike.from_in }
 
 pub returns-then-to-from-clause-moved : goal.returns-then-to-from-clause-moved
 returns-then-to-from-clause-moved c =
@@ -48,7 +48,7 @@ pub copy_one_by_one-requires-2 : goal.copy_one_by_one-requires-2
 copy_one_by_one-requires-2 c =
     let back = back-alike (length c.args.block.now) c.args.width c.args.to c.args.from c.turned.result c.turned-2.result c.requires.alike c.turned.ensures c.turned-2.ensures in
     let from = c.turned-2.result in
-    record { count = sym back.count; to = back.to_in; from = subst (EachWithin (length c.args.block.now) from.offset from.step c.args.width) (sym back.count) back.from_in }
+    record { count = sym back.count; to_in = back.to_in; from_in = subst (EachWithin (length c.args.block.now) from.offset from.step c.args.width) (sym back.count) back.from_in }
 
 pub returns-clause-moved : goal.returns-clause-moved
 returns-clause-moved c =

@@ -6,22 +6,22 @@ use Rattle.overlap_copy.proofs.TurnLaws.{spaced, back-alike, back-moved}
 use Rattle.overlap_copy.proofs.pair_copies.move_run.Goals as goal
 use Rattle.overlap_copy.proofs.pair_copies.move_run.Goals.{Else-to-lt2}
 
-pub returns-then-to-lt2-clause-written : goal.returns-then-to-lt2-clause-written
-returns-then-to-lt2-clause-written c =
+pub returns-then-to-lt2 : goal.returns-then-to-lt2
+returns-then-to-lt2 c =
     let to = one-offset c.args.to (omega (arith, c.requires.some, c.if-to-lt2.true)) in
-    let from = one-offset c.args.from (omega (arith, c.requires.some, c.requires.count, c.if-to-lt2.true)) in
-    c.move_within.ensures.moved ∙ (λ i. assigned (sym to i) (sym from i) c.args.width c.args.block.now c.args.block.now)
+    let from = one-offset c.args.from (omega (arith, c.requires.some, c.requires.lie.count, c.if-to-lt2.true)) in
+    record { written = c.move_within.ensures.moved ∙ (λ i. assigned (sym to i) (sym from i) c.args.width c.args.block.now c.args.block.now); len = search rules }
 
 alike : (c : Else-to-lt2) → AreAlike (length c.args.block.now) c.args.width c.args.to c.args.from
 alike c =
     let len = length c.args.block.now in
     record {
       two = omega (arith, c.if-to-lt2.false);
-      count = c.requires.count;
+      count = sym c.requires.lie.count;
       step = c.requires.step;
-      to_in = c.requires.to;
-      from_in = subst (EachWithin len c.args.from.offset c.args.from.step c.args.width) c.requires.count c.requires.from;
-      spaced = spaced len c.args.width c.args.to c.requires.to c.requires.nested;
+      to_in = c.requires.lie.to_in;
+      from_in = subst (EachWithin len c.args.from.offset c.args.from.step c.args.width) (sym c.requires.lie.count) c.requires.lie.from_in;
+      spaced = spaced len c.args.width c.args.to c.requires.lie.to_in c.requires.nested;
     }
 
 under : (s : ℤ) → int_lt s (pos 0) ≡ true → s <ℤ pos 0
@@ -39,20 +39,19 @@ move_forth-requires c =
     let below = under c.args.to.step (ap (λ z. int_lt z (pos 0)) (sym (to_z-of_z w64 c.args.to.step fits)) ∙ c.if-to-lt0.true) in
     record {
       to_limit = back-line c.args.to to c.turned.ensures (record { two = omega (arith, c.if-to-lt2.false); few = c.requires.few; lies = c.requires.to_limit });
-      from_limit = back-line c.args.from from c.turned-then-to-lt0.ensures (record { two = omega (arith, c.if-to-lt2.false, c.requires.count); few = omega (arith, c.requires.few, c.requires.count); lies = c.requires.from_limit });
+      from_limit = back-line c.args.from from c.turned-then-to-lt0.ensures (record { two = omega (arith, c.if-to-lt2.false, c.requires.lie.count); few = omega (arith, c.requires.few, c.requires.lie.count); lies = c.requires.from_limit });
       alike = back-alike (length c.args.block.now) c.args.width c.args.to c.args.from to from (alike (goal.at.move_forth-requires c).Else-to-lt2) c.turned.ensures c.turned-then-to-lt0.ensures;
       rising = subst (λ s. pos 0 ≤ℤ s) (sym c.turned.ensures.step) (rises c.args.to.step below);
     }
 
-pub returns-then-to-lt0-clause-written : goal.returns-then-to-lt0-clause-written
-returns-then-to-lt0-clause-written c =
+pub returns-then-to-lt0 : goal.returns-then-to-lt0
+returns-then-to-lt0 c =
     let new = c.move_forth.new.block in
-    assigned_from_moves c.args.to c.args.from c.args.width c.args.block.now new (sym c.requires.count) c.requires.to c.requires.from c.requires.nested
-    (back-moved (length c.args.block.now) c.args.width c.args.to c.args.from c.turned.result c.turned-then-to-lt0.result (alike (goal.at.returns-then-to-lt0-clause-written c).Else-to-lt2) c.turned.ensures c.turned-then-to-lt0.ensures c.args.block.now new c.move_forth.ensures.moved)
+    assigned_from_moves c.requires.lie c.requires.nested
+    (back-moved (length c.args.block.now) c.args.width c.args.to c.args.from c.turned.result c.turned-then-to-lt0.result (alike (goal.at.returns-then-to-lt0 c).Else-to-lt2) c.turned.ensures c.turned-then-to-lt0.ensures c.args.block.now new c.move_forth.ensures.moved)
 
 pub move_forth-requires-2-clause-alike : goal.move_forth-requires-2-clause-alike
 move_forth-requires-2-clause-alike c = alike (goal.at.move_forth-requires-2-clause-alike c).Else-to-lt2
 
-pub returns-clause-written : goal.returns-clause-written
-returns-clause-written c =
-    assigned_from_moves c.args.to c.args.from c.args.width c.args.block.now c.move_forth-2.new.block (sym c.requires.count) c.requires.to c.requires.from c.requires.nested c.move_forth-2.ensures.moved
+pub returns : goal.returns
+returns c = assigned_from_moves c.requires.lie c.requires.nested c.move_forth-2.ensures.moved

@@ -22,8 +22,8 @@ swap_strided-requires c =
       b = subst (λ (x : StridedItems). EachWithin len x.steps.at x.steps.step x.width x.count) (sym c.strided-2.ensures) (subst (λ s. EachWithin len back.offset s width half) (sym (to_z-of_z w64 back.step fits)) b);
     }
 
-pub returns-clause-written : goal.returns-clause-written
-returns-clause-written c =
+pub returns : goal.returns
+returns c =
     let run = c.args.run in
     let back = c.args.back in
     let old = c.args.block.now in
@@ -35,5 +35,5 @@ returns-clause-written c =
     c.swap_strided.ensures.swapped
     ∙ (λ i. swapped (a i).steps.at (a i).steps.step (b i).steps.at (b i).steps.step (b i).width (b i).count old)
     ∙ (λ i. swapped run.offset run.step back.offset (to_z-of_z w64 back.step fits i) c.args.width (run.count / 2) old) in
-    assigned_from_moves run back c.args.width old c.swap_strided.new.self (sym c.requires.back.count) c.requires.run (turned_within len c.args.width run back c.requires.back c.requires.run) c.requires.nested
+    assigned_from_moves (record { count = sym c.requires.back.count; to_in = c.requires.run; from_in = turned_within len c.args.width run back c.requires.back c.requires.run }) c.requires.nested
     (subst (IsAssigned run.count (place_in run) (place_in back) c.args.width old old) (sym is) (turned_by_swaps c.args.width run back old c.requires.run (spaced len c.args.width run c.requires.run c.requires.nested) c.requires.back))

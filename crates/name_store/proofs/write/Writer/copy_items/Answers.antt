@@ -1,15 +1,17 @@
-use Rattle.std.proofs.Common.{Some, None, sym, ap, ◌∙◌}
+use Rattle.std.proofs.Common.{Some, None, refl, sym, ap, ◌∙◌}
 use Rattle.name_store.proofs.Words.{IfOk-weaker, with_items, put_each, target_offsets, Source, with_source}
-use Rattle.name_store.proofs.RewriteLaws.{owned-within, lent-fits, lent-within, lent-parts}
+use Rattle.name_store.proofs.RewriteLaws.{owned-within, lent-fits, lent-paired, lent-parts}
 use Rattle.name_store.proofs.SlotLaws.{slot_at-get_or}
 use Rattle.name_store.proofs.SourceLaws.{put_each-items}
 use Rattle.name_store.proofs.write.Writer.copy_items.Goals as goal
 
-pub copy_to-requires-clause-from : goal.copy_to-requires-clause-from
-copy_to-requires-clause-from c = owned-within c.in-Block.owned c.args.self.now.width (rw c.in-Block.is at c.requires.are).0
+pub copy_to-requires : goal.copy_to-requires
+copy_to-requires c =
+    let are = rw c.in-Block.is at c.requires.are in
+    record { to_in = c.requires.inside; from_in = owned-within c.in-Block.owned c.args.self.now.width are.0; count = are.1 }
 
-pub copy_to-requires-in-Some-clause-from : goal.copy_to-requires-in-Some-clause-from
-copy_to-requires-in-Some-clause-from c = lent-within _ _ c.args.block.now _ _ _ (rw c.in-Buffer.is at c.requires.are) (Some c.in-Some.slot) _ c.in-Some.is
+pub copy_to-requires-in-Some : goal.copy_to-requires-in-Some
+copy_to-requires-in-Some c = lent-paired _ _ c.args.block.now _ _ _ (rw c.in-Buffer.is at c.requires.are) (Some c.in-Some.slot) _ c.in-Some.is _ c.requires.inside refl
 
 pub move_to-requires-clause-from : goal.move_to-requires-clause-from
 move_to-requires-clause-from c = lent-fits _ _ c.args.block.now _ _ _ (rw c.in-Buffer.is at c.requires.are) None _ c.in-None.is
@@ -40,4 +42,4 @@ returns-in-One-clause-put c =
 pub returns-in-Some-clause-put : goal.returns-in-Some-clause-put
 returns-in-Some-clause-put c =
     let parts = lent-parts _ c.args.self.now.width c.args.block.now _ _ _ (rw c.in-Buffer.is at c.requires.are) (Some c.in-Some.slot) _ c.in-Some.is in
-    rw c.in-Buffer.is (c.copy_to-in-Some.ensures.bytes ∙ ap (λ ps. with_items (target_offsets c.args.self.now.target) ps c.args.block.now) parts, tt)
+    rw c.in-Buffer.is (c.copy_to-in-Some.ensures.written ∙ ap (λ ps. with_items (target_offsets c.args.self.now.target) ps c.args.block.now) parts, tt)

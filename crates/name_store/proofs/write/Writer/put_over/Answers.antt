@@ -1,5 +1,5 @@
 use Rattle.std.proofs.Common.{◌≡◌, refl, sym, ap, ◌∙◌, length}
-use Rattle.name_store.proofs.Words.{length-offsets, offsets, multiples, items_at, target_offsets, Target}
+use Rattle.name_store.proofs.Words.{offsets, multiples, items_at, target_offsets, Target}
 use Rattle.name_store.proofs.ExchangeLaws.{own-packed, own-offsets, replaced, replaced-old}
 use Rattle.name_store.proofs.RewriteLaws.{owned-within}
 use Rattle.name_store.proofs.write.Writer.put_over.Goals as goal
@@ -14,13 +14,14 @@ returns-then-is_all-clause-put c = (
 pub returns-then-is_all-clause-old : goal.returns-then-is_all-clause-old
 returns-then-is_all-clause-old c = replaced-old c.args.self.now.width c.args.block.now (target_offsets c.args.self.now.target) c.requires.inside (c.is_all.ensures c.if-is_all.true) _ refl c.replace-block.ensures.value
 
-pub exchange-requires-clause-src : goal.exchange-requires-clause-src
-exchange-requires-clause-src c = owned-within c.in-Block.owned c.args.self.now.width (rw c.in-Block.is at c.requires.are).0
-
-pub exchange-requires-clause-count : goal.exchange-requires-clause-count
-exchange-requires-clause-count c =
+pub exchange-requires-clause-paired : goal.exchange-requires-clause-paired
+exchange-requires-clause-paired c =
     let are = rw c.in-Block.is at c.requires.are in
-    sym (length-offsets c.in-View.to) ∙ ap (λ (t : Target). length (target_offsets t)) (sym c.in-View.is) ∙ sym are.1 ∙ length-offsets c.in-Block.owned.layout
+    record {
+      to_in = rw c.in-View.is at c.requires.inside;
+      from_in = owned-within c.in-Block.owned c.args.self.now.width are.0;
+      count = are.1 ∙ ap (λ (t : Target). length (target_offsets t)) c.in-View.is;
+    }
 
 pub returns-in-View-clause-old : goal.returns-in-View-clause-old
 returns-in-View-clause-old c =
@@ -33,9 +34,11 @@ returns-in-View-clause-old c =
     let placed : multiples width (length os) ≡ offsets owned.layout = ap (multiples width) (sym are.1) ∙ sym (own-offsets owned width are.0 order) in
     record {
       size = refl;
-      whole = c.exchange.ensures.other_len ∙ packed.long;
-      bytes =
-          ap (λ at. items_at at width c.exchange.new.other) placed
-          ∙ c.exchange.ensures.old
-          ∙ ap (λ (t : Target). items_at (target_offsets t) width c.args.block.now) (sym c.in-View.is);
+      packed = record {
+        long = c.exchange.ensures.other_len ∙ packed.long;
+        items =
+            ap (λ at. items_at at width c.exchange.new.other) placed
+            ∙ c.exchange.ensures.old
+            ∙ ap (λ (t : Target). items_at (target_offsets t) width c.args.block.now) (sym c.in-View.is);
+      };
     }
