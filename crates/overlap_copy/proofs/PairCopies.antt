@@ -1,6 +1,6 @@
 -- Pairs of runs: those of layouts that are single runs, and those that are copied pair by pair.
 use Rattle.std.proofs.Common.{◌≡◌, ℕ, ◌+◌, ◌≤◌, List, ◌∷◌, All, length, sym, ap, subst, ◌∙◌}
-use Rattle.overlap_copy.proofs.Words.{All-firsts, All-seconds, ArePaired, CanMove, IsPermutation, LayoutPair, Run, RunPair, RunsLie, pair_even, zip, run_offsets, length-run_offsets, Layout, count, offsets, offsets_within, length-offsets, BeginsWithin, run-within, assigned-append, assigned, firsts, seconds}
+use Rattle.overlap_copy.proofs.Words.{All-firsts, All-seconds, ArePaired, CanMove, IsPermutation, LayoutPair, Run, RunLies, RunPair, RunsLie, runs-within, pair_even, zip, run_offsets, length-run_offsets, Layout, count, offsets, offsets_within, length-offsets, BeginsWithin, run-within, assigned-append, assigned, firsts, seconds}
 
 -- ---- as many items
 
@@ -33,6 +33,19 @@ runs-lie {to} {from} {width} {other} {block} first second is is' begins begins' 
   to_in = run-within (length block) width first begins (subst (All (λ offset. offset + width ≤ length block)) (sym is) paired.to_in);
   from_in = run-within (length other) width second begins' (subst (All (λ offset. offset + width ≤ length other)) (sym is') paired.from_in);
 }
+
+-- of each pair of two layouts
+pub pairs-lie : {to from : List ℕ} {width : ℕ} {other block : List ℕ} (pairs : List RunPair) → firsts pairs ≡ to → seconds pairs ≡ from → All (λ p. p.first.count ≡ p.second.count) pairs → All (λ p. BeginsWithin p.first) pairs → All (λ p. BeginsWithin p.second) pairs
+    → ArePaired to from width other block → All (λ p. RunsLie p.first p.second width other block) pairs
+pairs-lie {to} {from} {width} {other} {block} pairs is is' counts begin begin' paired =
+    let to_in = runs-within (length block) width (λ p. p.first) pairs begin (subst (All (λ offset. offset + width ≤ length block)) (sym is) paired.to_in) in
+    let from_in = runs-within (length other) width (λ p. p.second) pairs begin' (subst (All (λ offset. offset + width ≤ length other)) (sym is') paired.from_in) in
+    λ k d below. record { count = counts k d below; to_in = to_in k d below; from_in = from_in k d below }
+
+-- and they still do in blocks of the same lengths
+pub lie-still : {to from : Run} {width : ℕ} {other block : List ℕ} (other' block' : List ℕ) → length other' ≡ length other → length block' ≡ length block → RunsLie to from width other block → RunsLie to from width other' block'
+lie-still {to} {from} {width} other' block' same same' lie =
+    record { count = lie.count; to_in = subst (λ n. RunLies n width to) (sym same') lie.to_in; from_in = subst (λ n. RunLies n width from) (sym same) lie.from_in }
 
 -- ---- pair by pair
 

@@ -1,6 +1,6 @@
 -- Items of two blocks that are exchanged: each block then has the items that the other one had.
 use Rattle.std.proofs.Common.{◌≡◌, ◌+◌, ◌<◌, ◌≤◌, ◌⊎◌, inl, inr, ℕ, zero, suc, ℤ, List, [], ◌∷◌, ◌++◌, length, get_or, All, refl, sym, ap, subst, ◌∙◌, arith}
-use Rattle.overlap_copy.proofs.Words.{cases_lt, same_lists, length-map, get_or-map, All-head, All-tail, put, item_at, place, EachWithin, traded, length-item_at, length-put, item_at-put_apart, fewer, Run, RunPair, IsNested, distance, run_offsets, length-run_offsets, run_offsets-more, items_at, with_items, assigned, traded_at, ArePaired, RunsLie, firsts, seconds}
+use Rattle.overlap_copy.proofs.Words.{cases_lt, same_lists, length-map, get_or-map, All-head, All-tail, put, item_at, place, EachWithin, traded, length-item_at, length-put, item_at-put_apart, fewer, Run, RunPair, IsNested, distance, run_offsets, length-run_offsets, run_offsets-more, items_at, with_items, assigned, traded_at, ArePaired, Assigns, RunsLie, Trades, firsts, seconds}
 use Rattle.overlap_copy.proofs.MoveLaws.{assigned_is}
 use Rattle.overlap_copy.proofs.MovingLaws.{nested-back}
 
@@ -60,7 +60,7 @@ kept_items width at item (o ∷ places) block long inside within apart =
     let later = kept_items width at item places block long inside (All-tail (λ o. o + width ≤ length block) o places within) (λ k below. apart (suc k) (omega (arith, below))) in
     λ i. same i ∷ later i
 
-pub traded-apart : (width : ℕ) (to from block other : List ℕ) → IsNested to width → IsNested from width → ArePaired to from width other block →
+traded-apart : (width : ℕ) (to from block other : List ℕ) → IsNested to width → IsNested from width → ArePaired to from width other block →
     traded_at to from width (block, other) ≡ (assigned to from width other block, assigned from to width block other)
 traded-apart width [] [] block other nested nested' paired = refl
 traded-apart width [] (offset ∷ from) block other nested nested' paired = absurd (omega (arith, paired.count))
@@ -87,12 +87,18 @@ traded-apart width (at ∷ to) (offset ∷ from) block other nested nested' pair
     })
     ∙ (λ i. (with_items to (kept i) x, with_items from (kept' i) y))
 
+pub trades-apart : {to from : List ℕ} {width : ℕ} {other block : List ℕ} {new : Both} → IsNested to width → IsNested from width → ArePaired to from width other block → Trades to from width (block, other) new → Assigns to from width other block new.0 × Assigns from to width block other new.1
+trades-apart {to} {from} {width} {other} {block} nested nested' paired trades =
+    let is = trades.traded ∙ traded-apart width to from block other nested nested' paired in
+    (record { written = ap (λ p. p.0) is; len = trades.len }, record { written = ap (λ p. p.1) is; len = trades.other_len })
+
 -- the items are read back where they were written
-pub items-assigned : {to from : List ℕ} {width : ℕ} {other block : List ℕ} → IsNested to width → ArePaired to from width other block → items_at to width (assigned to from width other block) ≡ items_at from width other
-items-assigned {to} {from} {width} {other} {block} nested paired =
+pub items-assigned : {to from : List ℕ} {width : ℕ} {other block after : List ℕ} → IsNested to width → ArePaired to from width other block → Assigns to from width other block after → items_at to width after ≡ items_at from width other
+items-assigned {to} {from} {width} {other} {block} nested paired assigns =
     let new = assigned to from width other block in
     let is = assigned_is width other to from block (sym paired.count) paired.to_in paired.from_in nested in
     let long = length-map to (λ o. item_at o width new) in
-    same_lists (items_at to width new) (items_at from width other) (long ∙ sym paired.count ∙ sym (length-map from (λ o. item_at o width other))) (λ k d below.
+    ap (items_at to width) assigns.written
+    ∙ same_lists (items_at to width new) (items_at from width other) (long ∙ sym paired.count ∙ sym (length-map from (λ o. item_at o width other))) (λ k d below.
     let low : k < length to = omega (arith, below, long) in
     get_or-map (λ o. item_at o width new) to k 0 d low ∙ is.items k low ∙ sym (get_or-map (λ o. item_at o width other) from k 0 d (omega (arith, low, paired.count))))

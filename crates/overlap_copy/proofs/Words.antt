@@ -9,11 +9,11 @@ unfoldable pub use Rattle.overlap_copy.specs.Words.{offsets}
 pub use Rattle.overlap_copy.specs.inside.Joins.{AreJoined, SameSums}
 pub use Rattle.overlap_copy.specs.inside.Marks.{IsMarkedUpTo, is_end_marked, is_marked}
 unfoldable pub use Rattle.overlap_copy.specs.inside.Marks.{holds_byte}
-pub use Rattle.overlap_copy.specs.inside.Moves.{AreAlike, AreSpaced, CanMoveRun, IsAssigned, IsLine, IsOutside, IsTurned, LieApart, LiesApart, RunsLie, firsts, place_in, seconds}
+pub use Rattle.overlap_copy.specs.inside.Moves.{AreAlike, AreSpaced, CanMoveRun, IsAssigned, IsLine, IsOutside, IsTurned, LieApart, LiesApart, RunLies, RunsLie, firsts, place_in, seconds}
 pub use Rattle.overlap_copy.specs.inside.Overwrites.{CanOverwrite, Overwrites}
 pub use Rattle.overlap_copy.specs.inside.Shifts.{MayCome, source, source_run, sources}
 pub use Rattle.overlap_copy.specs.inside.Sums.{AreForward, HasSum, max_reach, reach_of, stepping}
-pub use Rattle.overlap_copy.specs.inside.Trades.{traded_at}
+pub use Rattle.overlap_copy.specs.inside.Trades.{Trades, traded_at}
 pub use Rattle.overlap_copy.specs.inside.Turns.{IsTurn}
 pub use Rattle.raw_block.specs.declared.strided.StridedItems.{StridedItems}
 pub use Rattle.std.proofs.Math.IntN.{*ℤ-one, *ℤ-zero, *ℤ_comm, +ℤ_idr, negsuc-*ℤ-pos, pos-*ℤ-negsuc, zero-*ℤ}

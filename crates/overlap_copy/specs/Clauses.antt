@@ -12,6 +12,6 @@ pub use Rattle.overlap_copy.specs.inside.Moves.{AreAlike, CanMoveRun, IsAssigned
 pub use Rattle.overlap_copy.specs.inside.Overwrites.{CanOverwrite, Overwrites}
 pub use Rattle.overlap_copy.specs.inside.Shifts.{source_run}
 pub use Rattle.overlap_copy.specs.inside.Sums.{AreForward, HasSum, reach_of, stepping}
-pub use Rattle.overlap_copy.specs.inside.Trades.{traded_at}
+pub use Rattle.overlap_copy.specs.inside.Trades.{Trades}
 pub use Rattle.overlap_copy.specs.inside.Turns.{IsTurn}
 pub use Rattle.std.specs.Int.{IsGcd}

@@ -1,6 +1,6 @@
 //! Exchanges items of two blocks in one pass.
 ghost use Rattle.std.specs.Prelude.{◌≡◌, length};
-ghost use Rattle.overlap_copy.specs.Clauses.{ArePaired, Assigns, IsNested, RunsLie, items_at, offsets, run_offsets, traded_at};
+ghost use Rattle.overlap_copy.specs.Clauses.{ArePaired, Assigns, IsNested, RunsLie, Trades, items_at, offsets, run_offsets};
 
 use crate::pair_copies::as_runs;
 use arrays::strided;
@@ -10,10 +10,8 @@ use shape_strides::{Layout, Run, RunPairs, in_memory_order};
 /// Exchanges the items, of `width` bytes, of a run with those of a run of `other` that has as many.
 fn trade_run(block: &mut RawBlock, to: Run, other: &mut RawBlock, from: Run, width: usize)
     requires { RunsLie to from width other.old block.old }
-    ensures traded { (block.new, other.new)
-        ≡ traded_at (run_offsets to) (run_offsets from) width (block.old, other.old) }
-    ensures len { length block.new ≡ length block.old }
-    ensures other_len { length other.new ≡ length other.old }
+    ensures { Trades (run_offsets to) (run_offsets from) width
+        (block.old, other.old) (block.new, other.new) }
 {
     block.trade_strided(strided(to, width).steps, other, strided(from, width));
 }
@@ -27,11 +25,9 @@ fn exchange_pairs(
     src: &Layout,
     width: usize,
 )
-    requires paired { ArePaired (offsets dst.now) (offsets src.now) width other.old block.old }
-    requires nested { IsNested (offsets dst.now) width }
-    requires other_nested { IsNested (offsets src.now) width }
-    ensures to { Assigns (offsets dst.now) (offsets src.now) width other.old block.old block.new }
-    ensures from { Assigns (offsets src.now) (offsets dst.now) width block.old other.old other.new }
+    requires { ArePaired (offsets dst.now) (offsets src.now) width other.old block.old }
+    ensures { Trades (offsets dst.now) (offsets src.now) width
+        (block.old, other.old) (block.new, other.new) }
 {
     if let Some(pair) = as_runs(dst, src) {
         trade_run(block, pair.first, other, pair.second, width);

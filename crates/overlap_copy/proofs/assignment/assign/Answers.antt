@@ -1,7 +1,7 @@
-use Rattle.std.proofs.Common.{◌≡◌, ◌*◌, ◌++◌, length, sym, ap, subst, ◌∙◌, All, ◌+◌, ◌≤◌, refl, arith}
-use Rattle.overlap_copy.proofs.Words.{both_ways, max_bytes, offsets, multiples, walked-within, with_items, assigned, LieApart, firsts, seconds, All-rest, EachWithin, IsNested, run_offsets, length-run_offsets, next_pair}
+use Rattle.std.proofs.Common.{◌*◌, ◌++◌, sym, ap, subst, ◌∙◌, All, ◌+◌, ◌≤◌, arith}
+use Rattle.overlap_copy.proofs.Words.{max_bytes, offsets, multiples, with_items, assigned, LieApart, firsts, seconds, All-rest, IsNested, RunPair, RunsLie, run_offsets, length-run_offsets, next_pair}
 use Rattle.overlap_copy.proofs.AssignLaws.{lie_apart}
-use Rattle.overlap_copy.proofs.PairCopies.{move-paired, same-count}
+use Rattle.overlap_copy.proofs.PairCopies.{lie-still, move-paired, pairs-lie, same-count}
 use Rattle.overlap_copy.proofs.MovingLaws.{IsMoving, moving_begins, moving_on, nested-front, nested-back, fewer-targets, fewer-sources}
 use Rattle.overlap_copy.proofs.assignment.assign.Goals as goal
 
@@ -10,15 +10,12 @@ loop-pair-init c =
     let new = c.new-pair-items.ensures in
     let dst = c.args.dst.now in
     let src = c.args.src.now in
-    let len = length c.args.block.now in
     let width = c.args.width in
     let paired = move-paired c.requires.can in
     let apart = lie_apart width (offsets dst) (offsets src) (c.may_overlap.ensures.sound c.if-not-may_overlap.true) in
     rw (c.into_iter-pair-iterator.ensures.into_iter_gives, new.pairs) (record {
       moving = rw (new.first, new.second) (moving_begins (offsets dst) (offsets src) width c.args.block.now paired.to_in paired.from_in);
-      counts = new.counts;
-      to = walked-within len width (λ pair. pair.first) _ _ _ refl (new.first_lie max_bytes 1 dst.within_limit) new.first paired.to_in;
-      from = walked-within len width (λ pair. pair.second) _ _ _ refl (new.second_lie max_bytes 1 src.within_limit) new.second paired.from_in;
+      lie = pairs-lie _ new.first new.second new.counts (new.first_lie max_bytes 1 dst.within_limit) (new.second_lie max_bytes 1 src.within_limit) paired;
       nested = rw new.first c.requires.can.nested;
       apart = rw (new.first, new.second) apart;
     })
@@ -28,16 +25,8 @@ new-pair-items-requires c = same-count c.args.dst.now c.args.src.now c.requires.
 
 pub move_apart-requires-clause-lie : goal.move_apart-requires-clause-lie
 move_apart-requires-clause-lie c =
-    let inv = c.loop-pair.invariant in
-    let len = length c.args.block.now in
-    let next = c.in-Some.ensures.steps in
-    let to = c.in-Some.pair.first in
-    let from = c.in-Some.pair.second in
-    record {
-      count = next_pair (λ p. p.first.count ≡ p.second.count) _ _ _ next inv.counts;
-      to_in = subst (λ n. EachWithin n to.offset to.step c.args.width to.count) (sym inv.moving.len) (next_pair (λ p. EachWithin len p.first.offset p.first.step c.args.width p.first.count) _ _ _ next inv.to);
-      from_in = subst (λ n. EachWithin n from.offset from.step c.args.width from.count) (sym inv.moving.len) (next_pair (λ p. EachWithin len p.second.offset p.second.step c.args.width p.second.count) _ _ _ next inv.from);
-    }
+    let len = c.loop-pair.invariant.moving.len in
+    lie-still _ _ len len (next_pair (λ p. RunsLie p.first p.second c.args.width c.args.block.now c.args.block.now) _ _ _ c.in-Some.ensures.steps c.loop-pair.invariant.lie)
 
 pub move_apart-requires-clause-nested : goal.move_apart-requires-clause-nested
 move_apart-requires-clause-nested c =
@@ -60,27 +49,19 @@ loop-pair-preserved c =
     let width = c.args.width in
     let to = run_offsets pair.first in
     let from = run_offsets pair.second in
-    let len = length c.args.block.now in
-    let even = length-run_offsets pair.first ∙ next_pair (λ p. p.first.count ≡ p.second.count) _ _ _ steps inv.counts ∙ sym (length-run_offsets pair.second) in
+    let lies = λ (p : RunPair). RunsLie p.first p.second width c.args.block.now c.args.block.now in
+    let even = length-run_offsets pair.first ∙ (next_pair lies _ _ _ steps inv.lie).count ∙ sym (length-run_offsets pair.second) in
     let both = fewer-targets width to (firsts left) (from ++ seconds left) (subst (λ l. LieApart width (firsts l) (seconds l)) steps inv.apart) in
     record {
       moving = moving_on to (firsts left) from (seconds left) width c.args.block.now c.loop-pair.block c.move_apart.new.block _ even (fewer-sources width to from (seconds left) both.0).1 c.move_apart.ensures
           (subst (λ l. IsMoving (firsts l) (seconds l) width c.args.block.now c.loop-pair.block (assigned (offsets c.args.dst.now) (offsets c.args.src.now) width c.args.block.now c.args.block.now)) steps inv.moving);
-      counts = All-rest (λ p. p.first.count ≡ p.second.count) _ _ _ steps inv.counts;
-      to = All-rest (λ p. EachWithin len p.first.offset p.first.step width p.first.count) _ _ _ steps inv.to;
-      from = All-rest (λ p. EachWithin len p.second.offset p.second.step width p.second.count) _ _ _ steps inv.from;
+      lie = All-rest lies _ _ _ steps inv.lie;
       nested = nested-back to (firsts left) width (subst (λ l. IsNested (firsts l) width) steps inv.nested);
       apart = (fewer-sources width (firsts left) from (seconds left) both.1).1;
     }
 
 pub gather-requires : goal.gather-requires
 gather-requires c = subst (λ n. All (λ offset. offset + c.args.width ≤ n) (offsets c.args.src.now)) (sym c.assign_runs.ensures.len) (move-paired c.requires.can).from_in
-
-pub returns-in_err-items-clause-runs : goal.returns-in_err-items-clause-runs
-returns-in_err-items-clause-runs c = λ are. absurd (both_ways c.assign_runs.result c.if-assign_runs.false (c.assign_runs.ensures.runs are))
-
-pub returns-in_err-items-clause-turned : goal.returns-in_err-items-clause-turned
-returns-in_err-items-clause-turned c = λ are. absurd (both_ways c.assign_runs.result c.if-assign_runs.false (c.assign_runs.ensures.turned are))
 
 pub scatter-requires-clause-inside : goal.scatter-requires-clause-inside
 scatter-requires-clause-inside c =

@@ -1,5 +1,5 @@
 use Rattle.std.proofs.Common.{◌≡◌, length, All}
-use Rattle.overlap_copy.proofs.Words.{offsets, EachWithin, assigned, firsts, seconds}
+use Rattle.overlap_copy.proofs.Words.{offsets, RunsLie, assigned, firsts, seconds}
 use Rattle.overlap_copy.proofs.assignment.assign_in_order.Given as goal
 
 -- the remaining pairs complete what all pairs do
@@ -7,7 +7,5 @@ abbrev pub invariant-loop-pair : goal.invariant-loop-pair
 invariant-loop-pair l = record {
   rest : assigned (firsts l.pair-iterator) (seconds l.pair-iterator) l.width l.other l.block ≡ assigned (offsets l.dst) (offsets l.src) l.width l.other l.fn.block;
   len : length l.block ≡ length l.fn.block;
-  counts : All (λ pair. pair.first.count ≡ pair.second.count) l.pair-iterator;
-  to : All (λ pair. EachWithin (length l.fn.block) pair.first.offset pair.first.step l.width pair.first.count) l.pair-iterator;
-  from : All (λ pair. EachWithin (length l.other) pair.second.offset pair.second.step l.width pair.second.count) l.pair-iterator;
+  lie : All (λ pair. RunsLie pair.first pair.second l.width l.other l.fn.block) l.pair-iterator;
 }

@@ -1,15 +1,17 @@
-use Rattle.std.proofs.Common.{◌≡◌, ℕ, List, length, refl, sym, subst, ap, ◌∙◌}
-use Rattle.overlap_copy.proofs.Words.{max_bytes, All-rest, EachWithin, next_pair, offsets, assigned, walked-within, traded_at, firsts, seconds}
-use Rattle.overlap_copy.proofs.PairCopies.{runs-lie, same-count}
-use Rattle.overlap_copy.proofs.TradeLaws.{traded-apart, traded-pair}
+use Rattle.std.proofs.Common.{refl, sym, ◌∙◌}
+use Rattle.overlap_copy.proofs.Words.{max_bytes, All-rest, RunPair, RunsLie, next_pair, traded_at, firsts, seconds}
+use Rattle.overlap_copy.proofs.PairCopies.{lie-still, pairs-lie, runs-lie, same-count}
+use Rattle.overlap_copy.proofs.TradeLaws.{traded-pair}
 use Rattle.overlap_copy.proofs.exchanges.exchange_pairs.Goals as goal
-use Rattle.overlap_copy.proofs.exchanges.exchange_pairs.Goals.{After-trade_run, In-None}
 
 pub trade_run-requires : goal.trade_run-requires
-trade_run-requires c = let found = c.in-Some.ensures in runs-lie c.in-Some.pair.first c.in-Some.pair.second found.first found.second found.first_lies found.second_lies c.requires.paired
+trade_run-requires c = let found = c.in-Some.ensures in runs-lie c.in-Some.pair.first c.in-Some.pair.second found.first found.second found.first_lies found.second_lies c.requires
+
+pub returns-in-Some : goal.returns-in-Some
+returns-in-Some c = rw (c.in-Some.ensures.first, c.in-Some.ensures.second) at c.trade_run.ensures
 
 pub new-pair-items-requires : goal.new-pair-items-requires
-new-pair-items-requires c = same-count c.args.dst.now c.args.src.now c.requires.paired.count
+new-pair-items-requires c = same-count c.args.dst.now c.args.src.now c.requires.count
 
 pub loop-pair-init : goal.loop-pair-init
 loop-pair-init c =
@@ -18,53 +20,33 @@ loop-pair-init c =
       rest = λ i. traded_at (new.first i) (new.second i) c.args.width (c.args.block.now, c.args.other.now);
       len = refl;
       other_len = refl;
-      counts = new.counts;
-      to = walked-within (length c.args.block.now) c.args.width (λ pair. pair.first) _ _ _ refl (new.first_lie max_bytes 1 c.args.dst.now.within_limit) new.first c.requires.paired.to_in;
-      from = walked-within (length c.args.other.now) c.args.width (λ pair. pair.second) _ _ _ refl (new.second_lie max_bytes 1 c.args.src.now.within_limit) new.second c.requires.paired.from_in;
+      lie = pairs-lie _ new.first new.second new.counts (new.first_lie max_bytes 1 c.args.dst.now.within_limit) (new.second_lie max_bytes 1 c.args.src.now.within_limit) c.requires;
     })
 
 pub trade_run-requires-in-loop-pair : goal.trade_run-requires-in-loop-pair
-trade_run-requires-in-loop-pair c = record {
-  count = next_pair (λ pair. pair.first.count ≡ pair.second.count) _ _ _ c.in-Some-pair.ensures.steps c.loop-pair.invariant.counts;
-  to_in = subst (λ n. EachWithin n c.in-Some-pair.pair.first.offset c.in-Some-pair.pair.first.step c.args.width c.in-Some-pair.pair.first.count) (sym c.loop-pair.invariant.len)
-      (next_pair (λ pair. EachWithin (length c.args.block.now) pair.first.offset pair.first.step c.args.width pair.first.count) _ _ _ c.in-Some-pair.ensures.steps c.loop-pair.invariant.to);
-  from_in = subst (λ n. EachWithin n c.in-Some-pair.pair.second.offset c.in-Some-pair.pair.second.step c.args.width c.in-Some-pair.pair.second.count) (sym c.loop-pair.invariant.other_len)
-      (next_pair (λ pair. EachWithin (length c.args.other.now) pair.second.offset pair.second.step c.args.width pair.second.count) _ _ _ c.in-Some-pair.ensures.steps c.loop-pair.invariant.from);
-}
+trade_run-requires-in-loop-pair c =
+    let inv = c.loop-pair.invariant in
+    lie-still _ _ inv.other_len inv.len (next_pair (λ p. RunsLie p.first p.second c.args.width c.args.other.now c.args.block.now) _ _ _ c.in-Some-pair.ensures.steps inv.lie)
 
 pub loop-pair-preserved : goal.loop-pair-preserved
-loop-pair-preserved c = record {
-  rest = traded-pair _ _ _ _ _ _ _ c.in-Some-pair.ensures.steps (next_pair (λ pair. pair.first.count ≡ pair.second.count) _ _ _ c.in-Some-pair.ensures.steps c.loop-pair.invariant.counts) c.trade_run-in-loop-pair.ensures.traded c.loop-pair.invariant.rest;
-  len = c.trade_run-in-loop-pair.ensures.len ∙ c.loop-pair.invariant.len;
-  other_len = c.trade_run-in-loop-pair.ensures.other_len ∙ c.loop-pair.invariant.other_len;
-  counts = All-rest (λ pair. pair.first.count ≡ pair.second.count) _ _ _ c.in-Some-pair.ensures.steps c.loop-pair.invariant.counts;
-  to = All-rest (λ pair. EachWithin (length c.args.block.now) pair.first.offset pair.first.step c.args.width pair.first.count) _ _ _ c.in-Some-pair.ensures.steps c.loop-pair.invariant.to;
-  from = All-rest (λ pair. EachWithin (length c.args.other.now) pair.second.offset pair.second.step c.args.width pair.second.count) _ _ _ c.in-Some-pair.ensures.steps c.loop-pair.invariant.from;
-}
+loop-pair-preserved c =
+    let inv = c.loop-pair.invariant in
+    let steps = c.in-Some-pair.ensures.steps in
+    let lies = λ (p : RunPair). RunsLie p.first p.second c.args.width c.args.other.now c.args.block.now in
+    let trade = c.trade_run-in-loop-pair.ensures in
+    record {
+      rest = traded-pair _ _ _ _ _ _ _ steps (next_pair lies _ _ _ steps inv.lie).count trade.traded inv.rest;
+      len = trade.len ∙ inv.len;
+      other_len = trade.other_len ∙ inv.other_len;
+      lie = All-rest lies _ _ _ steps inv.lie;
+    }
 
-runs_traded : (c : After-trade_run) → ◌≡◌ {A = List ℕ × List ℕ} (c.trade_run.new.block, c.trade_run.new.other)
-    (assigned (offsets c.args.dst.now) (offsets c.args.src.now) c.args.width c.args.other.now c.args.block.now, assigned (offsets c.args.src.now) (offsets c.args.dst.now) c.args.width c.args.block.now c.args.other.now)
-runs_traded c =
-    c.trade_run.ensures.traded
-    ∙ (λ i. traded_at (c.in-Some.ensures.first i) (c.in-Some.ensures.second i) c.args.width (c.args.block.now, c.args.other.now))
-    ∙ traded-apart c.args.width (offsets c.args.dst.now) (offsets c.args.src.now) c.args.block.now c.args.other.now c.requires.nested c.requires.other_nested c.requires.paired
-
-pairs_traded : (c : In-None) → ◌≡◌ {A = List ℕ × List ℕ} (c.loop-pair.block, c.loop-pair.other)
-    (assigned (offsets c.args.dst.now) (offsets c.args.src.now) c.args.width c.args.other.now c.args.block.now, assigned (offsets c.args.src.now) (offsets c.args.dst.now) c.args.width c.args.block.now c.args.other.now)
-pairs_traded c =
+pub returns : goal.returns
+returns c =
+    let inv = c.loop-pair.invariant in
     let left = c.in-None.ensures.steps.0 in
-    (λ i. traded_at (firsts (sym left i)) (seconds (sym left i)) c.args.width (c.loop-pair.block, c.loop-pair.other))
-    ∙ c.loop-pair.invariant.rest
-    ∙ traded-apart c.args.width (offsets c.args.dst.now) (offsets c.args.src.now) c.args.block.now c.args.other.now c.requires.nested c.requires.other_nested c.requires.paired
-
-pub returns-in-Some-clause-to : goal.returns-in-Some-clause-to
-returns-in-Some-clause-to c = record { written = ap (λ p. p.0) (runs_traded (goal.at.returns-in-Some-clause-to c).After-trade_run); len = c.trade_run.ensures.len }
-
-pub returns-in-Some-clause-from : goal.returns-in-Some-clause-from
-returns-in-Some-clause-from c = record { written = ap (λ p. p.1) (runs_traded (goal.at.returns-in-Some-clause-from c).After-trade_run); len = c.trade_run.ensures.other_len }
-
-pub returns-clause-to : goal.returns-clause-to
-returns-clause-to c = record { written = ap (λ p. p.0) (pairs_traded (goal.at.returns-clause-to c).In-None); len = c.loop-pair.invariant.len }
-
-pub returns-clause-from : goal.returns-clause-from
-returns-clause-from c = record { written = ap (λ p. p.1) (pairs_traded (goal.at.returns-clause-from c).In-None); len = c.loop-pair.invariant.other_len }
+    record {
+      traded = (λ i. traded_at (firsts (sym left i)) (seconds (sym left i)) c.args.width (c.loop-pair.block, c.loop-pair.other)) ∙ inv.rest;
+      len = inv.len;
+      other_len = inv.other_len;
+    }

@@ -1,5 +1,5 @@
 use Rattle.std.proofs.Common.{◌≡◌, ◌*◌, [], List, ℕ, length, sym, ap, subst, ◌∙◌, append-nil, arith}
-use Rattle.overlap_copy.proofs.Words.{All-rest, ArePaired, max_bytes, BeginsWithin, IsNested, run_offsets, next_pair, offsets, multiples, length-offsets, items_at, length-joined_at, joined-items, firsts, seconds}
+use Rattle.overlap_copy.proofs.Words.{All-rest, max_bytes, BeginsWithin, IsNested, run_offsets, next_pair, offsets, multiples, length-offsets, items_at, length-joined_at, joined-items, firsts, seconds}
 use Rattle.overlap_copy.proofs.MovingLaws.{nested-front}
 use Rattle.overlap_copy.proofs.OverwriteLaws.{overwritten, left-on, next-can}
 use Rattle.overlap_copy.proofs.PairCopies.{same-count}

@@ -1,4 +1,4 @@
-use Rattle.std.proofs.Common.{◌≡◌, [], length, All}
+use Rattle.std.proofs.Common.{◌≡◌, [], All}
 use Rattle.overlap_copy.proofs.Words.{offsets, BeginsWithin, firsts, seconds}
 use Rattle.overlap_copy.proofs.OverwriteLaws.{IsLeft, overwritten}
 use Rattle.overlap_copy.proofs.overwrites.overwrite.Given as goal

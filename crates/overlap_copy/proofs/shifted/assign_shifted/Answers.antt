@@ -1,4 +1,4 @@
-use Rattle.std.proofs.Common.{◌≤◌, [], ◌∷◌, length, nat_lt, refl, sym, ap, subst, ◌∙◌}
+use Rattle.std.proofs.Common.{◌≤◌, [], ◌∷◌, length, nat_lt, refl, sym, subst}
 use Rattle.overlap_copy.proofs.Words.{All-rest, Assigns, CanMoveRun, max_bytes, LieWithin, run_offsets, sources}
 use Rattle.overlap_copy.proofs.ComeLaws.{offset-within, assigned-order, come-in_order, nested-in_order}
 use Rattle.overlap_copy.proofs.MovingLaws.{IsMoving, moving_begins}
