@@ -51,29 +51,30 @@ back-spaced width run back t s = record {
 }
 
 -- two runs with the same step, and both of them in reverse
-module _ (len width : ℕ) (to from to' from' : Run) (a : AreAlike len width to from) (t : IsTurned to to') (t' : IsTurned from from') where
-  pub back-alike : AreAlike len width to' from'
+module _ (width : ℕ) (old : List ℕ) (to from to' from' : Run) (a : AreAlike to from width old) (t : IsTurned to to') (t' : IsTurned from from') where
+  pub back-alike : AreAlike to' from' width old
   back-alike = record {
+    lie = record {
+      count = t.count ∙ a.lie.count ∙ sym t'.count;
+      to_in = turned_within (length old) width to to' t a.lie.to_in;
+      from_in = turned_within (length old) width from from' t' a.lie.from_in;
+    };
     two = omega (arith, a.two, t.count);
-    count = t'.count ∙ a.count ∙ sym t.count;
     step = t'.step ∙ ap neg_ℤ a.step ∙ sym t.step;
-    to_in = turned_within len width to to' t a.to_in;
-    from_in = subst (EachWithin len from'.offset from'.step width) (t'.count ∙ a.count ∙ sym t.count)
-        (turned_within len width from from' t' (subst (EachWithin len from.offset from.step width) (sym a.count) a.from_in));
     spaced = back-spaced width to to' t a.spaced;
   }
 
   -- moving the reversed runs moves the same items
-  pub back-moved : (old new : List ℕ) → IsAssigned to'.count (place_in to') (place_in from') width old old new → IsAssigned to.count (place_in to) (place_in from) width old old new
-  back-moved old new moved =
+  pub back-moved : (new : List ℕ) → IsAssigned to'.count (place_in to') (place_in from') width old old new → IsAssigned to.count (place_in to) (place_in from) width old old new
+  back-moved new moved =
       let n = to.count in
       reordered n (λ k. n - 1 - k) (place_in to) (place_in from) (place_in to') (place_in from') width old old new (λ k below. (omega (arith, below), omega (arith, below)))
       (λ k below.
       let j = n - 1 - k in
       let low : j < n = omega (arith, below) in
       let back : n - 1 - j ≡ k = omega (arith, below) in
-      let back' : from.count - 1 - j ≡ k = omega (arith, below, a.count) in
-      (sym (turned_place to to' j t low ∙ ap (place_in to) back), sym (turned_place from from' j t' (omega (arith, low, a.count)) ∙ ap (place_in from) back')))
+      let back' : from.count - 1 - j ≡ k = omega (arith, below, a.lie.count) in
+      (sym (turned_place to to' j t low ∙ ap (place_in to) back), sym (turned_place from from' j t' (omega (arith, low, a.lie.count)) ∙ ap (place_in from) back')))
       (subst (λ m. IsAssigned m (place_in to') (place_in from') width old old new) t.count moved)
 
 -- ---- the direction in which moves are safe
@@ -89,13 +90,13 @@ meets-none : (width e d f : ℕ) (s : ℤ) → pos 0 ≤ℤ s → width ≤ dist
 meets-none width e d f (pos t) rising wide low j k before = let gap = later_by t j k before in omega (arith, wide, gap, low, rises e t 0, rises e t 1, rises d t j, rises f t k)
 meets-none width e d f (negsuc t) rising wide low j k before = absurd (omega (arith, ints))
 
-module _ (width : ℕ) (old : List ℕ) (to from : Run) (a : AreAlike (length old) width to from) (rising : pos 0 ≤ℤ to.step) where
+module _ (width : ℕ) (old : List ℕ) (to from : Run) (a : AreAlike to from width old) (rising : pos 0 ≤ℤ to.step) where
   wide : width ≤ distance (place_in to 0) (place_in to 1)
   wide = a.spaced.apart 0 1 (omega arith) a.two
 
   pub moved_forwards : to.offset ≤ from.offset → IsAssigned to.count (place_in to) (place_in from) width old old (copied_within to.offset to.step from.offset from.step width to.count old)
   moved_forwards low =
-      passed to.offset to.step from.offset from.step width old to.count a.to_in a.from_in (record {
+      passed to.offset to.step from.offset from.step width old to.count a.lie.to_in (subst (EachWithin (length old) from.offset from.step width) (sym a.lie.count) a.lie.from_in) (record {
         apart = a.spaced.apart;
         unread = λ j k before below. subst (λ s. width ≤ distance (place_in to j) (place from.offset s k)) (sym a.step) (meets-none width to.offset to.offset from.offset to.step rising wide low j k before);
       })
@@ -103,14 +104,14 @@ module _ (width : ℕ) (old : List ℕ) (to from : Run) (a : AreAlike (length ol
   pub moved_backwards : (to' from' : Run) → IsTurned to to' → IsTurned from from' → from.offset ≤ to.offset → IsAssigned to.count (place_in to) (place_in from) width old old (copied_within to'.offset to'.step from'.offset from'.step width to'.count old)
   moved_backwards to' from' t t' low =
       let n = to.count in
-      let b = back-alike (length old) width to from to' from' a t t' in
-      back-moved (length old) width to from to' from' a t t' old (copied_within to'.offset to'.step from'.offset from'.step width to'.count old)
-      (passed to'.offset to'.step from'.offset from'.step width old to'.count b.to_in b.from_in (record {
+      let b = back-alike width old to from to' from' a t t' in
+      back-moved width old to from to' from' a t t' (copied_within to'.offset to'.step from'.offset from'.step width to'.count old)
+      (passed to'.offset to'.step from'.offset from'.step width old to'.count b.lie.to_in (subst (EachWithin (length old) from'.offset from'.step width) (sym b.lie.count) b.lie.from_in) (record {
         apart = b.spaced.apart;
         unread = λ j k before below.
             let inside : k < n = omega (arith, below, t.count) in
             let here = turned_place to to' j t (omega (arith, before, inside)) in
-            let there = turned_place from from' k t' (omega (arith, inside, a.count)) ∙ (λ i. place from.offset (a.step i) (a.count i - 1 - k)) in
+            let there = turned_place from from' k t' (omega (arith, inside, a.lie.count)) ∙ (λ i. place from.offset (a.step i) (sym a.lie.count i - 1 - k)) in
             let far = meets-none width to.offset from.offset to.offset to.step rising wide low (n - 1 - k) (n - 1 - j) (omega (arith, before, inside)) in
             omega (arith, here, there, far);
       }))

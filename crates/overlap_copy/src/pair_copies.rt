@@ -85,7 +85,7 @@ pub(crate) fn is_same_line(run: Run, other: Run) -> bool
 fn move_forth(block: &mut RawBlock, to: Run, from: Run, width: usize)
     requires to_limit { IsLine max_bytes 1 to }
     requires from_limit { IsLine max_bytes 1 from }
-    requires alike { AreAlike (length block.old) width to from }
+    requires alike { AreAlike to from width block.old }
     requires rising { pos 0 ≤ℤ to.step }
     ensures moved { IsAssigned to.count (place_in to)
         (place_in from) width block.old block.old block.new }

@@ -49,14 +49,12 @@ pub record IsTurned (run back : Run) : Type 0 where
   pub step : back.step ≡ neg_ℤ run.step
   pub count : back.count ≡ run.count
 
--- Two runs have the same step and the same number of items, which is at least two, and lie within `len` bytes. The
--- items of the first run do not overlap.
-pub record AreAlike (len width : ℕ) (to from : Run) : Type 0 where
+-- Two runs have the same step and the same number of items, which is at least two, and lie within a block. The items of
+-- the first run do not overlap.
+pub record AreAlike (to from : Run) (width : ℕ) (block : List ℕ) : Type 0 where
+  pub lie : RunsLie to from width block block
   pub two : 2 ≤ to.count
-  pub count : from.count ≡ to.count
   pub step : from.step ≡ to.step
-  pub to_in : EachWithin len to.offset to.step width to.count
-  pub from_in : EachWithin len from.offset from.step width to.count
   pub spaced : AreSpaced width to
 
 -- the items of a run can be moved to another run with the same step, in one block

@@ -1,4 +1,4 @@
-use Rattle.std.proofs.Common.{◌*◌, ◌++◌, sym, ap, subst, ◌∙◌, All, ◌+◌, ◌≤◌, arith}
+use Rattle.std.proofs.Common.{◌++◌, sym, ap, subst, ◌∙◌, All, ◌+◌, ◌≤◌}
 use Rattle.overlap_copy.proofs.Words.{max_bytes, offsets, multiples, with_items, assigned, LieApart, firsts, seconds, All-rest, IsNested, RunPair, RunsLie, run_offsets, length-run_offsets, next_pair}
 use Rattle.overlap_copy.proofs.AssignLaws.{lie_apart}
 use Rattle.overlap_copy.proofs.PairCopies.{lie-still, move-paired, pairs-lie, same-count}
@@ -66,9 +66,6 @@ gather-requires c = subst (λ n. All (λ offset. offset + c.args.width ≤ n) (o
 pub scatter-requires-clause-inside : goal.scatter-requires-clause-inside
 scatter-requires-clause-inside c =
     subst (λ n. All (λ offset. offset + c.args.width ≤ n) (offsets c.args.dst.now)) (sym c.assign_runs.ensures.len) (move-paired c.requires.can).to_in
-
-pub scatter-requires-clause-items : goal.scatter-requires-clause-items
-scatter-requires-clause-items c = omega (arith, ap (λ n. n * c.args.width) c.requires.can.count, c.in_ok-items.ensures.len)
 
 pub returns-clause-written : goal.returns-clause-written
 returns-clause-written c =

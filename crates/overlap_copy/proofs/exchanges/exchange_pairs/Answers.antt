@@ -7,9 +7,6 @@ use Rattle.overlap_copy.proofs.exchanges.exchange_pairs.Goals as goal
 pub trade_run-requires : goal.trade_run-requires
 trade_run-requires c = let found = c.in-Some.ensures in runs-lie c.in-Some.pair.first c.in-Some.pair.second found.first found.second found.first_lies found.second_lies c.requires
 
-pub returns-in-Some : goal.returns-in-Some
-returns-in-Some c = rw (c.in-Some.ensures.first, c.in-Some.ensures.second) at c.trade_run.ensures
-
 pub new-pair-items-requires : goal.new-pair-items-requires
 new-pair-items-requires c = same-count c.args.dst.now c.args.src.now c.requires.count
 

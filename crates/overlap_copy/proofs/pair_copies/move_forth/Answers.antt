@@ -8,10 +8,10 @@ use Rattle.overlap_copy.proofs.pair_copies.move_forth.Goals.{Then-is_packed}
 -- ---- adjacent items
 
 to_ends : (c : Then-is_packed) → c.args.to.offset + c.args.to.count * c.args.width ≤ length c.args.block.now
-to_ends c = whole_within _ _ _ _ c.args.to.step (omega (arith, c.requires.alike.two)) (c.is_packed.ensures.0 c.if-is_packed.true) c.requires.alike.to_in
+to_ends c = whole_within _ _ _ _ c.args.to.step (omega (arith, c.requires.alike.two)) (c.is_packed.ensures.0 c.if-is_packed.true) c.requires.alike.lie.to_in
 
 from_ends : (c : Then-is_packed) → c.args.from.offset + c.args.to.count * c.args.width ≤ length c.args.block.now
-from_ends c = whole_within _ _ _ _ c.args.from.step (omega (arith, c.requires.alike.two)) (c.requires.alike.step ∙ c.is_packed.ensures.0 c.if-is_packed.true) c.requires.alike.from_in
+from_ends c = whole_within _ _ _ _ c.args.from.step (omega (arith, c.requires.alike.two)) (c.requires.alike.step ∙ c.is_packed.ensures.0 c.if-is_packed.true) (subst (EachWithin (length c.args.block.now) c.args.from.offset c.args.from.step c.args.width) (sym c.requires.alike.lie.count) c.requires.alike.lie.from_in)
 
 pub overflow_mul-to : goal.overflow_mul-to
 overflow_mul-to c = record { fits = omega (arith, to_ends (goal.at.overflow_mul-to c).Then-is_packed, c.len-len.ensures.len, c.len-len.ensures.small) }
@@ -29,12 +29,6 @@ returns-then-is_packed-clause-moved c =
 
 -- ---- from the first to the last
 
-pub copy_one_by_one-requires : goal.copy_one_by_one-requires
-copy_one_by_one-requires c =
-    let from = c.args.from in
-    let even = sym c.requires.alike.count in
-    record { count = even; to_in = c.requires.alike.to_in; from_in = subst (EachWithin (length c.args.block.now) from.offset from.step c.args.width) even c.requires.alike.from_in }
-
 pub returns-then-to-from-clause-moved : goal.returns-then-to-from-clause-moved
 returns-then-to-from-clause-moved c =
     let to = c.args.to in
@@ -45,10 +39,7 @@ returns-then-to-from-clause-moved c =
 -- ---- from the last to the first
 
 pub copy_one_by_one-requires-2 : goal.copy_one_by_one-requires-2
-copy_one_by_one-requires-2 c =
-    let back = back-alike (length c.args.block.now) c.args.width c.args.to c.args.from c.turned.result c.turned-2.result c.requires.alike c.turned.ensures c.turned-2.ensures in
-    let from = c.turned-2.result in
-    record { count = sym back.count; to_in = back.to_in; from_in = subst (EachWithin (length c.args.block.now) from.offset from.step c.args.width) (sym back.count) back.from_in }
+copy_one_by_one-requires-2 c = (back-alike c.args.width c.args.block.now c.args.to c.args.from c.turned.result c.turned-2.result c.requires.alike c.turned.ensures c.turned-2.ensures).lie
 
 pub returns-clause-moved : goal.returns-clause-moved
 returns-clause-moved c =

@@ -1,5 +1,5 @@
 use Rattle.std.proofs.Common.{rules, ◌≡◌, ◌≤ℤ◌, ◌<ℤ◌, ℤ, pos, negsuc, true, length, w64, sym, ap, subst, ◌∙◌, arith, int_lt, neg_ℤ}
-use Rattle.overlap_copy.proofs.Words.{ints, to_z-of_z, SFits, EachWithin, assigned, AreAlike}
+use Rattle.overlap_copy.proofs.Words.{ints, to_z-of_z, SFits, assigned, AreAlike}
 use Rattle.overlap_copy.proofs.MovingLaws.{assigned_from_moves}
 use Rattle.overlap_copy.proofs.ShiftLaws.{back-line, one-offset}
 use Rattle.overlap_copy.proofs.TurnLaws.{spaced, back-alike, back-moved}
@@ -12,17 +12,13 @@ returns-then-to-lt2 c =
     let from = one-offset c.args.from (omega (arith, c.requires.some, c.requires.lie.count, c.if-to-lt2.true)) in
     record { written = c.move_within.ensures.moved ∙ (λ i. assigned (sym to i) (sym from i) c.args.width c.args.block.now c.args.block.now); len = search rules }
 
-alike : (c : Else-to-lt2) → AreAlike (length c.args.block.now) c.args.width c.args.to c.args.from
-alike c =
-    let len = length c.args.block.now in
-    record {
-      two = omega (arith, c.if-to-lt2.false);
-      count = sym c.requires.lie.count;
-      step = c.requires.step;
-      to_in = c.requires.lie.to_in;
-      from_in = subst (EachWithin len c.args.from.offset c.args.from.step c.args.width) (sym c.requires.lie.count) c.requires.lie.from_in;
-      spaced = spaced len c.args.width c.args.to c.requires.lie.to_in c.requires.nested;
-    }
+alike : (c : Else-to-lt2) → AreAlike c.args.to c.args.from c.args.width c.args.block.now
+alike c = record {
+  lie = c.requires.lie;
+  two = omega (arith, c.if-to-lt2.false);
+  step = c.requires.step;
+  spaced = spaced (length c.args.block.now) c.args.width c.args.to c.requires.lie.to_in c.requires.nested;
+}
 
 under : (s : ℤ) → int_lt s (pos 0) ≡ true → s <ℤ pos 0
 under s test = omega (arith, ints)
@@ -40,7 +36,7 @@ move_forth-requires c =
     record {
       to_limit = back-line c.args.to to c.turned.ensures (record { two = omega (arith, c.if-to-lt2.false); few = c.requires.few; lies = c.requires.to_limit });
       from_limit = back-line c.args.from from c.turned-then-to-lt0.ensures (record { two = omega (arith, c.if-to-lt2.false, c.requires.lie.count); few = omega (arith, c.requires.few, c.requires.lie.count); lies = c.requires.from_limit });
-      alike = back-alike (length c.args.block.now) c.args.width c.args.to c.args.from to from (alike (goal.at.move_forth-requires c).Else-to-lt2) c.turned.ensures c.turned-then-to-lt0.ensures;
+      alike = back-alike c.args.width c.args.block.now c.args.to c.args.from to from (alike (goal.at.move_forth-requires c).Else-to-lt2) c.turned.ensures c.turned-then-to-lt0.ensures;
       rising = subst (λ s. pos 0 ≤ℤ s) (sym c.turned.ensures.step) (rises c.args.to.step below);
     }
 
@@ -48,7 +44,7 @@ pub returns-then-to-lt0 : goal.returns-then-to-lt0
 returns-then-to-lt0 c =
     let new = c.move_forth.new.block in
     assigned_from_moves c.requires.lie c.requires.nested
-    (back-moved (length c.args.block.now) c.args.width c.args.to c.args.from c.turned.result c.turned-then-to-lt0.result (alike (goal.at.returns-then-to-lt0 c).Else-to-lt2) c.turned.ensures c.turned-then-to-lt0.ensures c.args.block.now new c.move_forth.ensures.moved)
+    (back-moved c.args.width c.args.block.now c.args.to c.args.from c.turned.result c.turned-then-to-lt0.result (alike (goal.at.returns-then-to-lt0 c).Else-to-lt2) c.turned.ensures c.turned-then-to-lt0.ensures new c.move_forth.ensures.moved)
 
 pub move_forth-requires-2-clause-alike : goal.move_forth-requires-2-clause-alike
 move_forth-requires-2-clause-alike c = alike (goal.at.move_forth-requires-2-clause-alike c).Else-to-lt2
