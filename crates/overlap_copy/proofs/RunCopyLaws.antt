@@ -1,11 +1,11 @@
 -- Runs that are copied from one block to another, and the assignment that this makes.
 use Rattle.std.proofs.Common.{◌≡◌, inl, inr, ◌+◌, ◌*◌, ◌<◌, ◌≤◌, ℕ, zero, suc, ℤ, pos, List, length, get_or, sym, ap, subst, ◌∙◌, arith, suc-mul, mul-le-mul_right, zero-mul}
-use Rattle.overlap_copy.proofs.Words.{ext_get_or, cases_lt, byte_of, put, item_at, place, EachWithin, length-item_at, length-put, get_or-put_before, get_or-put_after, item_at-put_same, place_within, Run, IsAssigned, place_in}
+use Rattle.overlap_copy.proofs.Words.{ext_get_or, cases_lt, byte_of, put, item_at, place, EachWithin, length-item_at, length-put, get_or-put_before, get_or-put_after, item_at-put_same, place_within, Run, RunsLie, IsAssigned, place_in}
 
 -- ---- adjacent items
 
 -- the bytes of n adjacent items lie within `len` bytes
-pub whole_within : (len at width n : ℕ) (step : ℤ) → 1 ≤ n → step ≡ pos width → EachWithin len at step width n → at + n * width ≤ len
+whole_within : (len at width n : ℕ) (step : ℤ) → 1 ≤ n → step ≡ pos width → EachWithin len at step width n → at + n * width ≤ len
 whole_within len at width zero step some is within = absurd (omega (arith, some))
 whole_within len at width (suc n) step some is within =
     let last = place_within len at (pos width) width (suc n) n (subst (λ s. EachWithin len at s width (suc n)) is within) (omega arith) in
@@ -21,7 +21,7 @@ among to width (suc n) j low high = elim (cases_lt j (to + n * width)) [
   | inr last ↦ (n, omega arith, last, omega (arith, high, suc-mul n width))
 ]
 
-pub whole_moved : (to from width n : ℕ) (old : List ℕ) → to + n * width ≤ length old → from + n * width ≤ length old → IsAssigned n (place to (pos width)) (place from (pos width)) width old old (put to (item_at from (n * width) old) old)
+whole_moved : (to from width n : ℕ) (old : List ℕ) → to + n * width ≤ length old → from + n * width ≤ length old → IsAssigned n (place to (pos width)) (place from (pos width)) width old old (put to (item_at from (n * width) old) old)
 whole_moved to from width n old in_to in_from =
     let all = item_at from (n * width) old in
     let long : length all ≡ n * width = length-item_at from (n * width) old in_from in
@@ -52,8 +52,16 @@ whole_moved to from width n old in_to in_from =
       ];
     }
 
-pub packed_moved : (to from : Run) (width : ℕ) (old new : List ℕ) → to.step ≡ pos width → from.step ≡ to.step → to.offset + to.count * width ≤ length old → from.offset + to.count * width ≤ length old → new ≡ put to.offset (item_at from.offset (to.count * width) old) old → IsAssigned to.count (place_in to) (place_in from) width old old new
-packed_moved to from width old new is same in_to in_from moved =
+pub both-end : {to from : Run} {width : ℕ} {other block : List ℕ} → RunsLie to from width other block → 1 ≤ to.count → to.step ≡ pos width → from.step ≡ pos width → (to.offset + to.count * width ≤ length block) × (from.offset + to.count * width ≤ length other)
+both-end {to} {from} {width} {other} {block} lie some is is' = (
+  whole_within (length block) to.offset width to.count to.step some is lie.to_in,
+  whole_within (length other) from.offset width to.count from.step some is' (subst (EachWithin (length other) from.offset from.step width) (sym lie.count) lie.from_in),
+)
+
+pub packed_moved : {to from : Run} {width : ℕ} {old new : List ℕ} → RunsLie to from width old old → 1 ≤ to.count → to.step ≡ pos width → from.step ≡ pos width → new ≡ put to.offset (item_at from.offset (to.count * width) old) old
+    → IsAssigned to.count (place_in to) (place_in from) width old old new
+packed_moved {to} {from} {width} {old} lie some is is' moved =
+    let ends = both-end lie some is is' in
     subst (IsAssigned to.count (place_in to) (place_in from) width old old) (sym moved)
     (subst (λ s. IsAssigned to.count (place to.offset s) (place_in from) width old old (put to.offset (item_at from.offset (to.count * width) old) old)) (sym is)
-    (subst (λ s. IsAssigned to.count (place to.offset (pos width)) (place from.offset s) width old old (put to.offset (item_at from.offset (to.count * width) old) old)) (sym (same ∙ is)) (whole_moved to.offset from.offset width to.count old in_to in_from)))
+    (subst (λ s. IsAssigned to.count (place to.offset (pos width)) (place from.offset s) width old old (put to.offset (item_at from.offset (to.count * width) old) old)) (sym is') (whole_moved to.offset from.offset width to.count old ends.0 ends.1)))

@@ -1,31 +1,30 @@
 use Rattle.std.proofs.Common.{◌+◌, ◌*◌, ◌≤◌, length, arith, sym, subst, ◌∙◌}
-use Rattle.overlap_copy.proofs.Words.{EachWithin, IsAssigned, place_in}
+use Rattle.overlap_copy.proofs.Words.{IsAssigned, place_in}
 use Rattle.overlap_copy.proofs.TurnLaws.{back-alike, moved_forwards, moved_backwards}
-use Rattle.overlap_copy.proofs.RunCopyLaws.{whole_within, packed_moved}
+use Rattle.overlap_copy.proofs.RunCopyLaws.{both-end, packed_moved}
 use Rattle.overlap_copy.proofs.pair_copies.move_forth.Goals as goal
 use Rattle.overlap_copy.proofs.pair_copies.move_forth.Goals.{Then-is_packed}
 
 -- ---- adjacent items
 
-to_ends : (c : Then-is_packed) → c.args.to.offset + c.args.to.count * c.args.width ≤ length c.args.block.now
-to_ends c = whole_within _ _ _ _ c.args.to.step (omega (arith, c.requires.alike.two)) (c.is_packed.ensures.0 c.if-is_packed.true) c.requires.alike.lie.to_in
-
-from_ends : (c : Then-is_packed) → c.args.from.offset + c.args.to.count * c.args.width ≤ length c.args.block.now
-from_ends c = whole_within _ _ _ _ c.args.from.step (omega (arith, c.requires.alike.two)) (c.requires.alike.step ∙ c.is_packed.ensures.0 c.if-is_packed.true) (subst (EachWithin (length c.args.block.now) c.args.from.offset c.args.from.step c.args.width) (sym c.requires.alike.lie.count) c.requires.alike.lie.from_in)
+ends : (c : Then-is_packed) → (c.args.to.offset + c.args.to.count * c.args.width ≤ length c.args.block.now) × (c.args.from.offset + c.args.to.count * c.args.width ≤ length c.args.block.now)
+ends c =
+    let is = c.is_packed.ensures.0 c.if-is_packed.true in
+    both-end c.requires.alike.lie (omega (arith, c.requires.alike.two)) is (c.requires.alike.step ∙ is)
 
 pub overflow_mul-to : goal.overflow_mul-to
-overflow_mul-to c = record { fits = omega (arith, to_ends (goal.at.overflow_mul-to c).Then-is_packed, c.len-len.ensures.len, c.len-len.ensures.small) }
+overflow_mul-to c = record { fits = omega (arith, (ends (goal.at.overflow_mul-to c).Then-is_packed).0, c.len-len.ensures.len, c.len-len.ensures.small) }
 
 pub move_within-requires-clause-dst : goal.move_within-requires-clause-dst
-move_within-requires-clause-dst c = to_ends (goal.at.move_within-requires-clause-dst c).Then-is_packed
+move_within-requires-clause-dst c = (ends (goal.at.move_within-requires-clause-dst c).Then-is_packed).0
 
 pub move_within-requires-clause-src : goal.move_within-requires-clause-src
-move_within-requires-clause-src c = from_ends (goal.at.move_within-requires-clause-src c).Then-is_packed
+move_within-requires-clause-src c = (ends (goal.at.move_within-requires-clause-src c).Then-is_packed).1
 
 pub returns-then-is_packed-clause-moved : goal.returns-then-is_packed-clause-moved
 returns-then-is_packed-clause-moved c =
-    let h = (goal.at.returns-then-is_packed-clause-moved c).Then-is_packed in
-    packed_moved c.args.to c.args.from c.args.width c.args.block.now c.move_within.new.self (c.is_packed.ensures.0 c.if-is_packed.true) c.requires.alike.step (to_ends h) (from_ends h) c.move_within.ensures.moved
+    let is = c.is_packed.ensures.0 c.if-is_packed.true in
+    packed_moved c.requires.alike.lie (omega (arith, c.requires.alike.two)) is (c.requires.alike.step ∙ is) c.move_within.ensures.moved
 
 -- ---- from the first to the last
 
