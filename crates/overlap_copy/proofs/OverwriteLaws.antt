@@ -42,30 +42,10 @@ pub record IsLeft (to from : List ℕ) (width : ℕ) (other : List ℕ) (now : L
   pub rest : overwritten to from width other now.0 now.1.0 ≡ whole
   pub fills : length to * width + spare ≡ now.1.1
 
--- the next items can be kept and written over
-pub next-can : (pair : RunPair) (to' from' os os' : List ℕ) (width : ℕ) (other : List ℕ) (now : List ℕ × (List ℕ × ℕ)) (whole : List ℕ × List ℕ) (spare : ℕ) → run_offsets pair.first ++ to' ≡ os → run_offsets pair.second ++ from' ≡ os' → pair.first.count ≡ pair.second.count
-    → BeginsWithin pair.first → BeginsWithin pair.second → IsLeft os os' width other now whole spare → CanOverwrite pair width other now.0 now.1
-next-can pair to' from' os os' width other now whole spare all all' even begins begins' l =
-    let to = run_offsets pair.first in
-    let from = run_offsets pair.second in
-    let in_block = λ (o : ℕ). o + width ≤ length now.0 in
-    let in_other = λ (o : ℕ). o + width ≤ length other in
-    let many = sym (length-append to to') ∙ ap length all in
-    record {
-      begins = begins;
-      other_begins = begins';
-      paired = record {
-        to_in = All-front in_block to to' (subst (All in_block) (sym all) l.paired.to_in);
-        from_in = All-front in_other from from' (subst (All in_other) (sym all') l.paired.from_in);
-        count = length-run_offsets pair.second ∙ sym even ∙ sym (length-run_offsets pair.first);
-      };
-      room = omega (arith, l.fills, ap (λ n. n * width) many, add-mul (length to) (length to') width, ap (λ n. n * width) (length-run_offsets pair.first));
-    }
-
--- they are kept and written over
-pub left-on : (pair : RunPair) (to' from' os os' : List ℕ) (width : ℕ) (other : List ℕ) (now next : List ℕ × (List ℕ × ℕ)) (whole : List ℕ × List ℕ) (spare : ℕ) → run_offsets pair.first ++ to' ≡ os → run_offsets pair.second ++ from' ≡ os' → pair.first.count ≡ pair.second.count
-    → Overwrites pair width other now next → IsLeft os os' width other now whole spare → IsLeft to' from' width other next whole spare
-left-on pair to' from' os os' width other now next whole spare all all' even over l =
+-- the next items can be kept and written over, and then the others are left
+pub next-left : (pair : RunPair) (to' from' os os' : List ℕ) (width : ℕ) (other : List ℕ) (now : List ℕ × (List ℕ × ℕ)) (whole : List ℕ × List ℕ) (spare : ℕ) → run_offsets pair.first ++ to' ≡ os → run_offsets pair.second ++ from' ≡ os' → pair.first.count ≡ pair.second.count
+    → BeginsWithin pair.first → BeginsWithin pair.second → IsLeft os os' width other now whole spare → CanOverwrite pair width other now.0 now.1 × ((next : List ℕ × (List ℕ × ℕ)) → Overwrites pair width other now next → IsLeft to' from' width other next whole spare)
+next-left pair to' from' os os' width other now whole spare all all' even begins begins' l =
     let to = run_offsets pair.first in
     let from = run_offsets pair.second in
     let in_block = λ (o : ℕ). o + width ≤ length now.0 in
@@ -74,28 +54,37 @@ left-on pair to' from' os os' width other now next whole spare all all' even ove
     let to_in = subst (All in_block) (sym all) l.paired.to_in in
     let from_in = subst (All in_other) (sym all') l.paired.from_in in
     let same = length-run_offsets pair.first ∙ even ∙ sym (length-run_offsets pair.second) in
-    let behind : joined_at to' width next.0 ≡ joined_at to' width now.0 =
-    ap (joined_at to' width) over.there.written ∙ kept-behind width to to' from other now.0 nested to_in (All-front in_other from from' from_in) in
-    let written : assigned to' from' width other next.0 ≡ assigned os os' width other now.0 =
-    ap (assigned to' from' width other) over.there.written
-    ∙ sym (assigned-append to from to' from' width other now.0 same)
-    ∙ (λ i. assigned (all i) (all' i) width other now.0) in
-    let old : next.1.0 ++ joined_at to' width next.0 ≡ now.1.0 ++ joined_at os width now.0 =
-    (λ i. over.old_items i ++ behind i)
-    ∙ append_assoc now.1.0 (joined_at to width now.0) (joined_at to' width now.0)
-    ∙ ap (λ l. now.1.0 ++ l) (sym (flat_map-append (λ o. item_at o width now.0) to to') ∙ ap (λ xs. joined_at xs width now.0) all) in
     let many = sym (length-append to to') ∙ ap length all in
     let many' = sym (length-append from from') ∙ ap length all' in
-    record {
-      nested = nested-back to to' width nested;
-      paired = record {
-        to_in = subst (λ n. All (λ o. o + width ≤ n) to') (sym over.there.len) (All-back in_block to to' to_in);
-        from_in = All-back in_other from from' from_in;
-        count = omega (arith, many, many', same, l.paired.count);
-      };
-      rest = (λ i. (written i, old i)) ∙ l.rest;
-      fills = omega (arith, l.fills, over.left, ap (λ n. n * width) many, add-mul (length to) (length to') width, ap (λ n. n * width) (length-run_offsets pair.first));
-    }
+    let bytes : length os * width ≡ pair.first.count * width + length to' * width = omega (arith, ap (λ n. n * width) many, add-mul (length to) (length to') width, ap (λ n. n * width) (length-run_offsets pair.first)) in (
+      record {
+        begins = begins;
+        other_begins = begins';
+        paired = record { to_in = All-front in_block to to' to_in; from_in = All-front in_other from from' from_in; count = sym same };
+        room = omega (arith, l.fills, bytes);
+      },
+      λ next over.
+          let behind : joined_at to' width next.0 ≡ joined_at to' width now.0 =
+          ap (joined_at to' width) over.there.written ∙ kept-behind width to to' from other now.0 nested to_in (All-front in_other from from' from_in) in
+          let written : assigned to' from' width other next.0 ≡ assigned os os' width other now.0 =
+          ap (assigned to' from' width other) over.there.written
+          ∙ sym (assigned-append to from to' from' width other now.0 same)
+          ∙ (λ i. assigned (all i) (all' i) width other now.0) in
+          let old : next.1.0 ++ joined_at to' width next.0 ≡ now.1.0 ++ joined_at os width now.0 =
+          (λ i. over.old_items i ++ behind i)
+          ∙ append_assoc now.1.0 (joined_at to width now.0) (joined_at to' width now.0)
+          ∙ ap (λ l. now.1.0 ++ l) (sym (flat_map-append (λ o. item_at o width now.0) to to') ∙ ap (λ xs. joined_at xs width now.0) all) in
+          record {
+            nested = nested-back to to' width nested;
+            paired = record {
+              to_in = subst (λ n. All (λ o. o + width ≤ n) to') (sym over.there.len) (All-back in_block to to' to_in);
+              from_in = All-back in_other from from' from_in;
+              count = omega (arith, many, many', same, l.paired.count);
+            };
+            rest = (λ i. (written i, old i)) ∙ l.rest;
+            fills = omega (arith, l.fills, over.left, bytes);
+          },
+    )
 
 -- ---- the first items of a run, and those after them
 

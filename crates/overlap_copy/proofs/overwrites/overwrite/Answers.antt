@@ -1,10 +1,10 @@
 use Rattle.std.proofs.Common.{◌≡◌, ◌*◌, [], List, ℕ, length, sym, ap, subst, ◌∙◌, append-nil, arith}
-use Rattle.overlap_copy.proofs.Words.{All-rest, max_bytes, BeginsWithin, IsNested, run_offsets, next_pair, offsets, multiples, length-offsets, items_at, length-joined_at, joined-items, firsts, seconds}
+use Rattle.overlap_copy.proofs.Words.{CanOverwrite, Overwrites, All-rest, max_bytes, BeginsWithin, IsNested, run_offsets, next_pair, offsets, multiples, length-offsets, items_at, length-joined_at, joined-items, firsts, seconds}
 use Rattle.overlap_copy.proofs.MovingLaws.{nested-front}
-use Rattle.overlap_copy.proofs.OverwriteLaws.{overwritten, left-on, next-can}
+use Rattle.overlap_copy.proofs.OverwriteLaws.{IsLeft, overwritten, next-left}
 use Rattle.overlap_copy.proofs.PairCopies.{same-count}
 use Rattle.overlap_copy.proofs.overwrites.overwrite.Goals as goal
-use Rattle.overlap_copy.proofs.overwrites.overwrite.Goals.{After-finish}
+use Rattle.overlap_copy.proofs.overwrites.overwrite.Goals.{After-finish, In-Some}
 
 pub new-pair-items-requires : goal.new-pair-items-requires
 new-pair-items-requires c = same-count c.args.dst.now c.args.src.now c.requires.paired.count
@@ -26,23 +26,27 @@ loop-pair-init c =
       other_begin = new.second_lie max_bytes 1 c.args.src.now.within_limit;
     })
 
-pub overwrite_run-requires : goal.overwrite_run-requires
-overwrite_run-requires c =
+next : (c : In-Some) → CanOverwrite c.in-Some.pair c.args.width c.args.other.now c.loop-pair.block c.loop-pair.kept
+    × ((next : List ℕ × (List ℕ × ℕ)) → Overwrites c.in-Some.pair c.args.width c.args.other.now (c.loop-pair.block, c.loop-pair.kept) next
+    → IsLeft (firsts c.next.new.self) (seconds c.next.new.self) c.args.width c.args.other.now next (overwritten (offsets c.args.dst.now) (offsets c.args.src.now) c.args.width c.args.other.now c.args.block.now []) 0)
+next c =
     let inv = c.loop-pair.invariant in
     let steps = c.in-Some.ensures.steps in
-    record {
-      can = next-can c.in-Some.pair _ _ _ _ c.args.width c.args.other.now (c.loop-pair.block, c.loop-pair.kept) _ _ (ap firsts (sym steps)) (ap seconds (sym steps)) (next_pair (λ p. p.first.count ≡ p.second.count) _ _ _ steps inv.counts)
-          (next_pair (λ p. BeginsWithin p.first) _ _ _ steps inv.begin) (next_pair (λ p. BeginsWithin p.second) _ _ _ steps inv.other_begin) inv.left;
-      nested = nested-front (run_offsets c.in-Some.pair.first) (firsts c.next.new.self) c.args.width (subst (λ l. IsNested (firsts l) c.args.width) steps inv.left.nested);
-    }
+    next-left c.in-Some.pair _ _ _ _ c.args.width c.args.other.now (c.loop-pair.block, c.loop-pair.kept) _ _ (ap firsts (sym steps)) (ap seconds (sym steps)) (next_pair (λ p. p.first.count ≡ p.second.count) _ _ _ steps inv.counts)
+    (next_pair (λ p. BeginsWithin p.first) _ _ _ steps inv.begin) (next_pair (λ p. BeginsWithin p.second) _ _ _ steps inv.other_begin) inv.left
+
+pub overwrite_run-requires : goal.overwrite_run-requires
+overwrite_run-requires c = record {
+  can = (next (goal.at.overwrite_run-requires c).In-Some).0;
+  nested = nested-front (run_offsets c.in-Some.pair.first) (firsts c.next.new.self) c.args.width (subst (λ l. IsNested (firsts l) c.args.width) c.in-Some.ensures.steps c.loop-pair.invariant.left.nested);
+}
 
 pub loop-pair-preserved : goal.loop-pair-preserved
 loop-pair-preserved c =
     let inv = c.loop-pair.invariant in
     let steps = c.in-Some.ensures.steps in
     record {
-      left = left-on c.in-Some.pair _ _ _ _ c.args.width c.args.other.now (c.loop-pair.block, c.loop-pair.kept) _ _ _ (ap firsts (sym steps)) (ap seconds (sym steps)) (next_pair (λ p. p.first.count ≡ p.second.count) _ _ _ steps inv.counts)
-          c.overwrite_run.ensures inv.left;
+      left = (next (goal.at.loop-pair-preserved c).In-Some).1 _ c.overwrite_run.ensures;
       counts = All-rest (λ p. p.first.count ≡ p.second.count) _ _ _ steps inv.counts;
       begin = All-rest (λ p. BeginsWithin p.first) _ _ _ steps inv.begin;
       other_begin = All-rest (λ p. BeginsWithin p.second) _ _ _ steps inv.other_begin;

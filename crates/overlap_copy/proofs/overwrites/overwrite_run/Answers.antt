@@ -1,6 +1,6 @@
 use Rattle.std.proofs.Common.{◌*◌, ap, refl, sym, ◌∙◌, arith}
 use Rattle.overlap_copy.proofs.Words.{length-run_offsets}
-use Rattle.overlap_copy.proofs.OverwriteLaws.{left-on, next-can}
+use Rattle.overlap_copy.proofs.OverwriteLaws.{next-left}
 use Rattle.overlap_copy.proofs.overwrites.overwrite_run.Goals as goal
 
 pub loop-left-init : goal.loop-left-init
@@ -19,7 +19,7 @@ pub overwrite_part-requires : goal.overwrite_part-requires
 overwrite_part-requires c =
     let to = c.split.ensures in
     let from = c.split-in-loop-left.ensures in
-    next-can _ _ _ _ _ c.args.width c.args.other.now (c.loop-left.block, c.loop-left.kept) _ _ to.offsets from.offsets (omega (arith, to.count, from.count)) to.begins from.begins c.loop-left.invariant.left
+    (next-left _ _ _ _ _ c.args.width c.args.other.now (c.loop-left.block, c.loop-left.kept) _ _ to.offsets from.offsets (omega (arith, to.count, from.count)) to.begins from.begins c.loop-left.invariant.left).0
 
 pub loop-left-preserved : goal.loop-left-preserved
 loop-left-preserved c =
@@ -28,7 +28,7 @@ loop-left-preserved c =
     let from = c.split-in-loop-left.ensures in
     let part = c.overwrite_part.ensures in
     record {
-      left = left-on _ _ _ _ _ c.args.width c.args.other.now (c.loop-left.block, c.loop-left.kept) _ _ _ to.offsets from.offsets (omega (arith, to.count, from.count)) part inv.left;
+      left = (next-left _ _ _ _ _ c.args.width c.args.other.now (c.loop-left.block, c.loop-left.kept) _ _ to.offsets from.offsets (omega (arith, to.count, from.count)) to.begins from.begins inv.left).1 _ part;
       len = part.there.len ∙ inv.len;
       count = omega (arith, inv.count, to.rest, from.rest);
       begins = to.rest_begins;
