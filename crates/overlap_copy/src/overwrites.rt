@@ -1,6 +1,6 @@
 //! Writes items over others and keeps the old ones, in a single pass.
-ghost use Rattle.std.specs.Prelude.{◌≡◌, ◌+◌, ◌++◌, ◌<◌, ◌≤◌, length, replicate, All, IfOk, IfErr};
-ghost use Rattle.overlap_copy.specs.Clauses.{ArePaired, BeginsWithin, CanOverwrite, IsNested, IsPacked, Overwrites, assigned, items_at, max_items, offsets, run_offsets, with_items};
+ghost use Rattle.std.specs.Prelude.{◌≡◌, ◌+◌, ◌*◌, ◌++◌, ◌<◌, ◌≤◌, length, replicate, All, IfOk, IfErr};
+ghost use Rattle.overlap_copy.specs.Clauses.{ArePaired, BeginsWithin, CanOverwrite, IsNested, IsPacked, Overwrites, RunsLie, assigned, items_at, max_items, offsets, run_offsets, with_items};
 
 use arrays::{copy_run, push_run};
 use raw_block::{BlockBuilder, RawBlock};
@@ -46,7 +46,8 @@ fn overwrite_part(
     width: usize,
     kept: &mut BlockBuilder,
 )
-    requires { CanOverwrite pair width other.now block.old kept.old }
+    requires lie { RunsLie pair.first pair.second width other.now block.old }
+    requires room { pair.first.count * width ≤ kept.old.1 }
     ensures { Overwrites pair width other.now (block.old, kept.old) (block.new, kept.new) }
 {
     push_run(kept, block, pair.first, width);

@@ -1,6 +1,7 @@
 use Rattle.std.proofs.Common.{◌*◌, ap, refl, sym, ◌∙◌, arith}
 use Rattle.overlap_copy.proofs.Words.{length-run_offsets}
 use Rattle.overlap_copy.proofs.OverwriteLaws.{next-left}
+use Rattle.overlap_copy.proofs.PairCopies.{runs-lie}
 use Rattle.overlap_copy.proofs.overwrites.overwrite_run.Goals as goal
 
 pub loop-left-init : goal.loop-left-init
@@ -19,7 +20,8 @@ pub overwrite_part-requires : goal.overwrite_part-requires
 overwrite_part-requires c =
     let to = c.split.ensures in
     let from = c.split-in-loop-left.ensures in
-    (next-left _ _ _ _ _ c.args.width c.args.other.now (c.loop-left.block, c.loop-left.kept) _ _ to.offsets from.offsets (omega (arith, to.count, from.count)) to.begins from.begins c.loop-left.invariant.left).0
+    let can = (next-left _ _ _ _ _ c.args.width c.args.other.now (c.loop-left.block, c.loop-left.kept) _ _ to.offsets from.offsets (omega (arith, to.count, from.count)) to.begins from.begins c.loop-left.invariant.left).0 in
+    record { lie = runs-lie c.split.result.0 c.split-in-loop-left.result.0 refl refl can.begins can.other_begins can.paired; room = can.room }
 
 pub loop-left-preserved : goal.loop-left-preserved
 loop-left-preserved c =
@@ -38,7 +40,7 @@ loop-left-preserved c =
 pub overwrite_part-requires-2 : goal.overwrite_part-requires-2
 overwrite_part-requires-2 c =
     let inv = c.loop-left.invariant in
-    record { begins = inv.begins; other_begins = inv.other_begins; paired = inv.left.paired; room = omega (arith, inv.left.fills, ap (λ n. n * c.args.width) (length-run_offsets c.loop-left.left.first)) }
+    record { lie = runs-lie c.loop-left.left.first c.loop-left.left.second refl refl inv.begins inv.other_begins inv.left.paired; room = omega (arith, inv.left.fills, ap (λ n. n * c.args.width) (length-run_offsets c.loop-left.left.first)) }
 
 pub returns : goal.returns
 returns c =
