@@ -123,7 +123,7 @@ count-run l run same = sym (length-run_offsets run) ∙ ap length same ∙ lengt
 
 -- the items along that run, in the layout's own shape
 run-stretched : (x : Items) (run : Run) (shape : List ℕ) → run_offsets run ≡ offsets x.layout.now → x.layout.now.shape ≡ shape → run_items x run ≡ stretched x shape
-run-stretched x run shape same there = ap (map (item_from x.descr.now x.block.now)) (same ∙ (stretches-itself x.layout.now shape there).places)
+run-stretched x run shape same there = ap (map (item_from x.descr.now x.block.now)) same ∙ stretches-itself x shape there
 
 -- two such runs
 module _ (r : InRuns) where

@@ -25,7 +25,7 @@ pub use Rattle.elementwise.specs.inside.LeafCasts.{HasSource, IsCut, IsLeafCast,
 pub use Rattle.elementwise.specs.inside.Made.{AreItems, IsMade, IsTurned}
 pub use Rattle.elementwise.specs.inside.Operands.{AreAllMade, all_made, made_of_all, pairs_of}
 pub use Rattle.elementwise.specs.inside.PairPasses.{AreHeld, Holds, IsNative, compared_value, division_op, number_pair, pair_from, said, says_number, text_pair, text_said, truth_value, value_pair}
-pub use Rattle.elementwise.specs.inside.Shrunk.{IsShrunk, IsStretched, stretched_view}
+pub use Rattle.elementwise.specs.inside.Shrunk.{IsShrunk, stretched_view}
 pub use Rattle.elementwise.specs.inside.Added.{AreAdded}
 pub use Rattle.elementwise.specs.inside.Sides.{AreMadeTo, made_of}
 pub use Rattle.elementwise.specs.inside.Words.{AreInOrder, IsWord}

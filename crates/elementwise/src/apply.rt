@@ -1,6 +1,6 @@
 //! Operations on all items of arrays: operands are cast, stretched and combined.
 ghost use Rattle.std.specs.Prelude.{IfOk, IfSome, IsTrue, map, true, ◌≡◌, ◌≤◌};
-ghost use Rattle.elementwise.specs.Clauses.{can_cast, cast_item, binary_item, binary_result, pairwise, stretched_items, unary_item, unary_result, AreAlike, C, Gives, can_stretch, encode_item, item_from, item_size, items, offsets, offsets_in, owned_items, AreCastable, IsCombined, fitted_layout, IsStretched, flat_map};
+ghost use Rattle.elementwise.specs.Clauses.{can_cast, cast_item, binary_item, binary_result, pairwise, stretched_items, unary_item, unary_result, AreAlike, C, Gives, encode_item, item_from, item_size, items, offsets, offsets_in, owned_items, AreCastable, IsCombined, flat_map};
 
 use crate::castable::keeps_items;
 use crate::casts::cast_items;
@@ -12,7 +12,7 @@ use crate::row_pairs::Operands;
 use arrays::{Items, Owned, copy, goes_by_columns};
 use broadcasting::{common, stretched_to};
 use elem_descr::{BinOp, Descr, MemoryOrder, Refusal, UnOp};
-use shape_strides::{Layout, Shape};
+use shape_strides::Shape;
 use std::alloc::{AllocError, Global};
 
 /// The result of an operation on the items of two arrays, which are broadcast together, in a block
@@ -135,35 +135,6 @@ impl<'a> Held<'a> {
     }
 }
 
-/// A layout, stretched to a shape unless it has the shape already.
-#[derive(Drop)]
-pub(crate) enum Fitted<'a> {
-    Same(&'a Layout),
-    Made(Layout),
-}
-
-impl<'a> Fitted<'a> {
-    fn to(alloc: Global, layout: &'a Layout, shape: &Shape) -> Result<Fitted<'a>, AllocError>
-        requires { IsTrue (can_stretch layout.now.shape shape.now) }
-        ensures { IfOk result
-            (λ fitted. IsStretched (fitted_layout fitted) layout.now shape.now) }
-    {
-        if layout.shape.as_slice() == shape.as_slice() {
-            return Ok(Fitted::Same(layout));
-        }
-        Ok(Fitted::Made(stretched_to(alloc, layout, shape)?))
-    }
-
-    fn layout(&self) -> &Layout
-        ensures { result.now ≡ fitted_layout self.now }
-    {
-        match self {
-            Fitted::Same(layout) => layout,
-            Fitted::Made(layout) => layout,
-        }
-    }
-}
-
 /// The results for the items of two arrays, each of which is cast as a whole and then stretched.
 /// Its frame is large, so it is not inlined.
 #[inline(never)]
@@ -179,17 +150,17 @@ fn make_whole(alloc: Global, pairing: &Pairing, both: Broadcast<'_>) -> Result<O
     let right_held = Held::of(alloc, right, &right_to)?;
     let left = left_held.items();
     let right = right_held.items();
-    let first = Fitted::to(alloc, left.layout, shape)?;
-    let second = Fitted::to(alloc, right.layout, shape)?;
+    let first = stretched_to(alloc, left.layout, shape)?;
+    let second = stretched_to(alloc, right.layout, shape)?;
     let operands = Operands {
         left: Items {
             block: left.block,
-            layout: first.layout(),
+            layout: &first,
             descr: left.descr,
         },
         right: Items {
             block: right.block,
-            layout: second.layout(),
+            layout: &second,
             descr: right.descr,
         },
     };

@@ -124,11 +124,6 @@ pub(crate) fn make_by_chunks(
         block = push_chunk(alloc, pairing, runs, chunk, block)?;
         done += count;
     }
-    Owned::over(
-        alloc,
-        Descr::Scalar(scalar),
-        shape,
-        MemoryOrder::C,
-        block.finish(),
-    )
+    let block = block.finish();
+    Owned::over(alloc, Descr::Scalar(scalar), shape, MemoryOrder::C, block)
 }

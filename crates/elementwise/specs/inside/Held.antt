@@ -1,11 +1,9 @@
 -- Operands as items of an element type: used in place, or copied to a block of their own.
 use Rattle.std.specs.Prelude.{ℕ, List}
-use Rattle.elementwise.specs.Words.{Descr, LeafValue, items, owned_items, Items, Layout}
+use Rattle.elementwise.specs.Words.{Descr, LeafValue, items, owned_items, Items}
 use Rattle.elementwise.specs.Results.{stretched_items}
 use Rattle.elementwise.specs.declared.apply.Held.{Held}
 use Rattle.elementwise.specs.declared.apply.Held.TheVariants.{Kept, Made}
-use Rattle.elementwise.specs.declared.apply.Fitted.{Fitted}
-use Rattle.elementwise.specs.declared.apply.Fitted.TheVariants as fitted
 
 abbrev pub held_items : Held → List (List LeafValue)
 held_items (Kept i) = items i
@@ -18,10 +16,6 @@ held_descr (Made o) = o.descr
 abbrev pub held_shape : Held → List ℕ
 held_shape (Kept i) = i.layout.now.shape
 held_shape (Made o) = o.layout.shape
-
-abbrev pub fitted_layout : Fitted → Layout
-fitted_layout (fitted.Same l) = l.now
-fitted_layout (fitted.Made l) = l
 
 -- borrowed items, stretched to a shape
 abbrev pub stretched : Items → List ℕ → List (List LeafValue)

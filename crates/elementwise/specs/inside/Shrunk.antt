@@ -13,9 +13,3 @@ pub record IsShrunk (small layout : Layout) (once shape : List ℕ) : Type 0 whe
 -- the view of a layout that is stretched to a shape
 abbrev pub stretched_view : Layout → List ℕ → View
 stretched_view layout shape = record { shape = shape; leads = broadcast_index layout.shape }
-
--- `wide` is a layout that is stretched to a shape
-pub record IsStretched (wide layout : Layout) (shape : List ℕ) : Type 0 where
-  pub shape_is : wide.shape ≡ shape
-  pub places : offsets wide ≡ view_through (offsets layout) layout.shape shape (broadcast_index layout.shape)
-  pub inside : (len width : ℕ) → All (λ offset. offset + width ≤ len) (offsets layout) → All (λ offset. offset + width ≤ len) (offsets wide)

@@ -1,21 +1,9 @@
-use Rattle.std.proofs.Common.{◌≡◌, ◌*◌, ◌≤◌, ℕ, true, List, [], ◌∷◌, map, refl, ap, ◌∙◌, arith}
-use Rattle.elementwise.proofs.Words.{mul-le-mul_left, ScalarDescr, Descr, Items, LeafValue, count, size, item_from, items, offsets, can_stretch, cast_item, pairwise, value_in, stretched, left_of, right_of, target_of, gives}
+use Rattle.std.proofs.Common.{◌≡◌, ◌*◌, ◌≤◌, List, [], ◌∷◌, map, refl, ap, ◌∙◌, arith}
+use Rattle.elementwise.proofs.Words.{mul-le-mul_left, ScalarDescr, LeafValue, count, size, cast_item, pairwise, value_in, stretched, left_of, right_of, target_of, gives}
 use Rattle.elementwise.proofs.MadeLaws.{made-in}
 use Rattle.elementwise.proofs.PairLaws.{pairwise-map}
 use Rattle.elementwise.proofs.StretchedLaws.{stretches-itself}
-use Rattle.elementwise.proofs.TypedLaws.{stretched-cast}
 use Rattle.elementwise.proofs.apply.make_cast.Goals as goal
-
--- ---- items that are used in place
-
--- items that a cast leaves unchanged, stretched to their own shape
-as_cast : (x : Items) (to : Descr) (shape : List ℕ) → x.layout.now.shape ≡ shape → can_stretch x.layout.now.shape shape ≡ true →
-    map (item_from to x.block.now) (offsets x.layout.now) ≡ map (cast_item x.descr.now to) (items x) →
-    map (item_from to x.block.now) (offsets x.layout.now) ≡ map (cast_item x.descr.now to) (stretched x shape)
-as_cast x to shape same can kept =
-    let l = x.layout.now in
-    ap (map (item_from to x.block.now)) (stretches-itself l shape same).places
-    ∙ stretched-cast (cast_item x.descr.now to) x.descr.now to x.block.now x.block.now l l shape refl can kept
 
 pub made-requires : goal.made-requires
 made-requires c =
@@ -37,8 +25,8 @@ returns-then-stays-2 c =
     let y = c.args.both.right in
     let shape = c.args.both.shape.now in
     let make = λ (u v : List LeafValue). gives p (value_in u) (value_in v) ∷ [] in
-    let first = as_cast x (ScalarDescr c.left.result) shape (c.if-stays.ensures.shape refl) c.args.both.first (c.if-stays.ensures.items refl) ∙ λ i. map (cast_item x.descr.now (ScalarDescr (c.left.ensures i))) (stretched x shape) in
-    let second = as_cast y (ScalarDescr c.right.result) shape (c.if-stays-2.ensures.shape refl) c.args.both.second (c.if-stays-2.ensures.items refl) ∙ λ i. map (cast_item y.descr.now (ScalarDescr (c.right.ensures i))) (stretched y shape) in
+    let first = c.if-stays.ensures.items refl ∙ λ i. map (cast_item x.descr.now (ScalarDescr (c.left.ensures i))) (stretches-itself x shape (c.if-stays.ensures.shape refl) i) in
+    let second = c.if-stays-2.ensures.items refl ∙ λ i. map (cast_item y.descr.now (ScalarDescr (c.right.ensures i))) (stretches-itself y shape (c.if-stays-2.ensures.shape refl) i) in
     made-in (ScalarDescr (target_of p)) x.layout.now.shape shape _ _ c.made.result (c.if-stays.ensures.shape refl)
     ((λ i. pairwise make (first i) (second i))
     ∙ pairwise-map make (cast_item x.descr.now (ScalarDescr (left_of p))) (cast_item y.descr.now (ScalarDescr (right_of p))) (stretched x shape) (stretched y shape))

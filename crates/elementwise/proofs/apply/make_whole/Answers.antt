@@ -1,31 +1,32 @@
 use Rattle.std.proofs.Common.{◌≡◌, ◌+◌, ◌*◌, ◌≤◌, List, [], ◌∷◌, All, length, map, sym, ap, subst, ◌∙◌, arith}
 use Rattle.elementwise.proofs.Words.{mul-le-mul_left, ScalarDescr, LeafValue, size, item_size, item_from, count, offsets, can_stretch, cast_item, pairwise, value_in, stretched_items, left_of, right_of, target_of, gives}
 use Rattle.elementwise.proofs.PairLaws.{pairwise-map}
+use Rattle.elementwise.proofs.StretchedLaws.{inside}
 use Rattle.elementwise.proofs.TypedLaws.{stretched-cast}
 use Rattle.elementwise.proofs.MadeLaws.{made-in}
 use Rattle.elementwise.proofs.apply.make_whole.Goals as goal
 
-pub to-requires : goal.to-requires
-to-requires c = (λ i. can_stretch ((c.items-left.ensures.shape ∙ c.in_ok-left_held.ensures.shape) i) c.args.both.shape.now) ∙ c.args.both.first
+pub stretched_to-requires : goal.stretched_to-requires
+stretched_to-requires c = (λ i. can_stretch ((c.items-left.ensures.shape ∙ c.in_ok-left_held.ensures.shape) i) c.args.both.shape.now) ∙ c.args.both.first
 
-pub to-requires-2 : goal.to-requires-2
-to-requires-2 c = (λ i. can_stretch ((c.items-right.ensures.shape ∙ c.in_ok-right_held.ensures.shape) i) c.args.both.shape.now) ∙ c.args.both.second
+pub stretched_to-requires-2 : goal.stretched_to-requires-2
+stretched_to-requires-2 c = (λ i. can_stretch ((c.items-right.ensures.shape ∙ c.in_ok-right_held.ensures.shape) i) c.args.both.shape.now) ∙ c.args.both.second
 
 pub invariant_of-operands : goal.invariant_of-operands
 invariant_of-operands c =
     let x = c.items-left.result in
-    record { inside = subst (λ l. All (λ offset. offset + item_size x.descr.now ≤ length x.block.now) (offsets l)) (sym c.layout.ensures) (c.in_ok-first.ensures.inside (length x.block.now) (item_size x.descr.now) x.inside) }
+    record { inside = inside (length x.block.now) (item_size x.descr.now) c.in_ok-first.ensures x.inside }
 
 pub invariant_of-operands-2 : goal.invariant_of-operands-2
 invariant_of-operands-2 c =
     let y = c.items-right.result in
-    record { inside = subst (λ l. All (λ offset. offset + item_size y.descr.now ≤ length y.block.now) (offsets l)) (sym c.layout-2.ensures) (c.in_ok-second.ensures.inside (length y.block.now) (item_size y.descr.now) y.inside) }
+    record { inside = inside (length y.block.now) (item_size y.descr.now) c.in_ok-second.ensures y.inside }
 
 pub made-requires : goal.made-requires
 made-requires c =
     let n = count c.args.both.shape.now in
     let to = size (target_of c.args.pairing.now) in
-    let same : count c.layout.result.now.shape * to ≡ n * to = ap (λ s. count s * to) (ap (λ l. l.shape) c.layout.ensures ∙ c.in_ok-first.ensures.shape_is) in
+    let same : count c.in_ok-first.first.shape * to ≡ n * to = ap (λ s. count s * to) c.in_ok-first.ensures.shape in
     let most : n * to ≤ n * 8 = mul-le-mul_left n c.requires.small.2 in
     record {
       can = c.requires.can;
@@ -45,14 +46,14 @@ returns c =
     let cast = cast_item x.descr.now (ScalarDescr (left_of p)) in
     let cast' = cast_item y.descr.now (ScalarDescr (right_of p)) in
     let make = λ (u v : List LeafValue). gives p (value_in u) (value_in v) ∷ [] in
-    let first = ap (map (item_from held.descr.now held.block.now)) (ap offsets c.layout.ensures ∙ c.in_ok-first.ensures.places) ∙ stretched-cast cast x.descr.now held.descr.now x.block.now held.block.now x.layout.now held.layout.now shape (c.items-left.ensures.shape ∙ c.in_ok-left_held.ensures.shape) c.args.both.first
+    let first = ap (map (item_from held.descr.now held.block.now)) c.in_ok-first.ensures.places ∙ stretched-cast cast x.descr.now held.descr.now x.block.now held.block.now x.layout.now held.layout.now shape (c.items-left.ensures.shape ∙ c.in_ok-left_held.ensures.shape) c.args.both.first
     (c.items-left.ensures.items ∙ c.in_ok-left_held.ensures.items ∙ λ i. map (cast_item x.descr.now (ScalarDescr (c.left.ensures i))) (map (item_from x.descr.now x.block.now) (offsets x.layout.now))) in
-    let second = ap (map (item_from held'.descr.now held'.block.now)) (ap offsets c.layout-2.ensures ∙ c.in_ok-second.ensures.places) ∙ stretched-cast cast' y.descr.now held'.descr.now y.block.now held'.block.now y.layout.now held'.layout.now shape (c.items-right.ensures.shape ∙ c.in_ok-right_held.ensures.shape) c.args.both.second
+    let second = ap (map (item_from held'.descr.now held'.block.now)) c.in_ok-second.ensures.places ∙ stretched-cast cast' y.descr.now held'.descr.now y.block.now held'.block.now y.layout.now held'.layout.now shape (c.items-right.ensures.shape ∙ c.in_ok-right_held.ensures.shape) c.args.both.second
     (c.items-right.ensures.items ∙ c.in_ok-right_held.ensures.items ∙ λ i. map (cast_item y.descr.now (ScalarDescr (c.right.ensures i))) (map (item_from y.descr.now y.block.now) (offsets y.layout.now))) in
-    made-in (ScalarDescr (target_of p)) c.layout.result.now.shape shape _ _ c.made.result (ap (λ l. l.shape) c.layout.ensures ∙ c.in_ok-first.ensures.shape_is)
+    made-in (ScalarDescr (target_of p)) c.in_ok-first.first.shape shape _ _ c.made.result c.in_ok-first.ensures.shape
     ((λ i. pairwise make (first i) (second i))
     ∙ pairwise-map make cast cast' (stretched_items x.descr.now x.block.now x.layout.now shape) (stretched_items y.descr.now y.block.now y.layout.now shape))
     c.made.ensures
 
 pub invariant_of-operands-3 : goal.invariant_of-operands-3
-invariant_of-operands-3 c = record { even = (ap (λ l. l.shape) c.layout.ensures ∙ c.in_ok-first.ensures.shape_is) ∙ sym (ap (λ l. l.shape) c.layout-2.ensures ∙ c.in_ok-second.ensures.shape_is) }
+invariant_of-operands-3 c = record { even = c.in_ok-first.ensures.shape ∙ sym c.in_ok-second.ensures.shape }

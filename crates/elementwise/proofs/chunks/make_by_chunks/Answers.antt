@@ -41,7 +41,7 @@ over-requires-clause-whole c =
     let r = c.args.runs in
     let so_far = c.loop-done.invariant in
     let at : c.loop-done.done ≡ count r.both.shape.now = omega (arith, c.loop-done-test.false, so_far.most, c.items-many.ensures.value) in
-    ap length (c.finish.ensures ∙ so_far.made)
+    ap length (c.finish-block.ensures ∙ so_far.made)
     ∙ long-given p r.both (run_front c.loop-done.done r.left) (run_front c.loop-done.done r.right) c.requires.can refl
     ∙ λ i. at i * size (sym c.target-scalar.ensures i)
 
@@ -50,7 +50,7 @@ over-requires-clause-small c =
     let p = c.args.pairing.now in
     let r = c.args.runs in
     let so_far = c.loop-done.invariant in
-    let long = ap length (c.finish.ensures ∙ so_far.made) ∙ long-given p r.both (run_front c.loop-done.done r.left) (run_front c.loop-done.done r.right) c.requires.can refl in
+    let long = ap length (c.finish-block.ensures ∙ so_far.made) ∙ long-given p r.both (run_front c.loop-done.done r.left) (run_front c.loop-done.done r.right) c.requires.can refl in
     let most : c.loop-done.done * size (target_of p) ≤ c.items-many.result * 8 = mul-le-mul so_far.most c.requires.small.2 in
     omega (arith, long, most, c.items-many.ensures.limit)
 
@@ -64,10 +64,10 @@ returns c =
     let values = all_given p r.both r.left r.right in
     let at : c.loop-done.done ≡ r.left.count = omega (arith, c.loop-done-test.false, so_far.most, c.items-many.ensures.value, many_left r) in
     let at' : c.loop-done.done ≡ r.right.count = at ∙ many_left r ∙ sym (many_right r) in
-    let wrote : c.finish.result ≡ flat_map (encode_item d) values = c.finish.ensures ∙ so_far.made ∙ λ i. flat_map (encode_item d) (all_given p r.both (run_front (at i) r.left) (run_front (at' i) r.right)) in
+    let wrote : c.finish-block.result ≡ flat_map (encode_item d) values = c.finish-block.ensures ∙ so_far.made ∙ λ i. flat_map (encode_item d) (all_given p r.both (run_front (at i) r.left) (run_front (at' i) r.right)) in
     let many : length values ≡ count shape = count-given p r.both r.left r.right (many_left r ∙ sym (many_right r)) ∙ many_left r in
     let are = given-are p c.requires.can r.both.left.descr.now r.both.right.descr.now (run_items r.both.left r.left) (run_items r.both.right r.right) in
     let owned = c.over.ensures in
     made-as d shape values _ c.over.result (runs_given r p)
-    (over-made (ScalarDescr c.target-scalar.result) d shape values c.over.result c.finish.result (ap ScalarDescr c.target-scalar.ensures) owned.descr owned.shape owned.order owned.block
+    (over-made (ScalarDescr c.target-scalar.result) d shape values c.over.result c.finish-block.result (ap ScalarDescr c.target-scalar.ensures) owned.descr owned.shape owned.order owned.block
     ((λ i. map (item_from d (wrote i)) (multiples (item_size d) (sym many i))) ∙ items-read d values (flat_map (encode_item d) values) are) wrote)
