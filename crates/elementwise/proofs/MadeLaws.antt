@@ -1,6 +1,6 @@
 -- New arrays, as the contracts of calls describe them.
-use Rattle.std.proofs.Common.{◌≡◌, ℕ, Result, Ok, Err, List, map, IfOk, sym, ap, subst, ◌∙◌}
-use Rattle.elementwise.proofs.Words.{flat_map, AllocError, Refusal, Descr, LeafValue, item_size, encode_item, item_from, C, count, offsets, multiples, offsets_in, owned_items, Owned, IsMade}
+use Rattle.std.proofs.Common.{◌≡◌, ◌⊎◌, ℕ, Result, Ok, Err, List, map, IfOk, IsErrAnd, sym, ap, subst, ◌∙◌}
+use Rattle.elementwise.proofs.Words.{err_from_is_err_and, flat_map, AllocError, Refusal, Descr, LeafValue, item_size, encode_item, item_from, count, offsets, multiples, owned_items, Owned, GivesArray, OutOfMemory, IsMade}
 
 -- an array with a block of items
 pub over-made : (t d : Descr) (shape : List ℕ) (values : List (List LeafValue)) (result : Result Owned AllocError) (block : List ℕ) → t ≡ d →
@@ -26,17 +26,20 @@ made-in d shape shape' xs ys result there same made = subst (λ s. IfOk result (
 
 -- what is known of a new array
 module _ (d : Descr) (shape : List ℕ) (values : List (List LeafValue)) (o : Owned) (made : IsMade d shape values o) where
-  pub made-gives : (there : Result (Descr × List ℕ) Refusal) → there ≡ Ok (d, shape) → there ≡ Ok (o.descr, o.layout.shape)
-  made-gives there is = is ∙ λ i. Ok (sym made.descr_is i, sym made.shape_is i)
-
-  pub made-order : offsets o.layout ≡ offsets_in C (item_size o.descr) o.layout.shape
-  made-order = made.order ∙ λ i. multiples (item_size (sym made.descr_is i)) (count (sym made.shape_is i))
-
-  pub made-items : (f : Descr → List ℕ → List (List LeafValue)) → values ≡ f d shape → map (item_from o.descr o.block) (offsets o.layout) ≡ f o.descr o.layout.shape
-  made-items f same = (λ i. map (item_from (made.descr_is i) o.block) (offsets o.layout)) ∙ made.items ∙ same ∙ λ i. f (sym made.descr_is i) (sym made.shape_is i)
-
   pub made-encoded : o.block ≡ flat_map (encode_item o.descr) (owned_items o)
   made-encoded =
       made.encoded
       ∙ ap (flat_map (encode_item d)) (sym made.items)
       ∙ λ i. flat_map (encode_item (sym made.descr_is i)) (map (item_from (sym made.descr_is i) o.block) (offsets o.layout))
+
+  pub made-given : (there : Result (Descr × List ℕ) Refusal) (f : Descr → List ℕ → List (List LeafValue)) → there ≡ Ok (d, shape) → values ≡ f d shape → GivesArray there f (Ok o)
+  made-given there f is same = record {
+    gives = is ∙ λ i. Ok (sym made.descr_is i, sym made.shape_is i);
+    order = made.order ∙ λ i. multiples (item_size (sym made.descr_is i)) (count (sym made.shape_is i));
+    items = (λ i. map (item_from (made.descr_is i) o.block) (offsets o.layout)) ∙ made.items ∙ same ∙ λ i. f (sym made.descr_is i) (sym made.shape_is i);
+    encoded = made-encoded;
+  }
+
+-- a call that refuses as another one did
+pub refused : (there : Result (Descr × List ℕ) Refusal) (f : Descr → List ℕ → List (List LeafValue)) (e : Refusal) (result : Result Owned Refusal) → IsErrAnd result (λ y. y ≡ e) → (e ≡ OutOfMemory) ⊎ (there ≡ Err e) → GivesArray there f result
+refused there f e result returned is = let p = err_from_is_err_and result returned in rw (p.1, p.2) (record { gives = is; order = tt; items = tt; encoded = tt })

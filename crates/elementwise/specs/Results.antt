@@ -1,6 +1,6 @@
 -- Results of operations and comparisons on arrays: their type, their shape and their items.
-use Rattle.std.specs.Prelude.{ℕ, ℤ, pos, Bool, if◌then◌else◌, not, List, [], ◌∷◌, get_or, map, Result, Ok, Err}
-use Rattle.elementwise.specs.Words.{Refusal, NotForThisKind, Descr, Scalar, LeafValue, number, wrap, number_of, ◌>>=◌, check, item_from, Layout, offsets, view_through, common_shape, broadcast_index, BinOp, UnOp, Comparison, is_text, ScalarDescr, RecordDescr, BoolScalar}
+use Rattle.std.specs.Prelude.{◌≡◌, ℕ, ℤ, pos, Bool, if◌then◌else◌, not, List, [], ◌∷◌, get_or, map, Result, Ok, Err, IfOk}
+use Rattle.elementwise.specs.Words.{Refusal, NotForThisKind, Descr, Scalar, LeafValue, number, wrap, number_of, ◌>>=◌, check, Gives, flat_map, C, item_from, item_size, encode_item, owned_items, Items, Owned, Layout, offsets, offsets_in, view_through, common_shape, broadcast_index, BinOp, UnOp, Comparison, is_text, ScalarDescr, RecordDescr, BoolScalar}
 use Rattle.elementwise.specs.Promotion.{promote, promote_one, compared_type}
 use Rattle.elementwise.specs.Operations.{binary, unary}
 use Rattle.elementwise.specs.Comparisons.{compared}
@@ -76,7 +76,19 @@ compared_item comparison left right = truth_item (compared comparison (value_in 
 abbrev pub stretched_items : Descr → List ℕ → Layout → List ℕ → List (List LeafValue)
 stretched_items descr block layout shape = map (item_from descr block) (view_through (offsets layout) layout.shape shape (broadcast_index layout.shape))
 
+-- borrowed items, stretched to a shape
+abbrev pub stretched : Items → List ℕ → List (List LeafValue)
+stretched i shape = stretched_items i.descr.now i.block.now i.layout.now shape
+
 -- `f` of the items at each position of two lists
 abbrev pub pairwise : {A B : Type 0} → (A → A → B) → List A → List A → List B
 pairwise f (x ∷ xs) (y ∷ ys) = f x y ∷ pairwise f xs ys
 pairwise f _ _ = []
+
+-- A new array in C order. `there` has its element type and shape, and `values` gives its items, whose bytes are those of
+-- the encoded items; or the call refuses as `there` does, or because memory runs out.
+pub record GivesArray (there : Result (Descr × List ℕ) Refusal) (values : Descr → List ℕ → List (List LeafValue)) (result : Result Owned Refusal) : Type 0 where
+  pub gives : Gives (λ o. (o.descr, o.layout.shape)) result there
+  pub order : IfOk result (λ o. offsets o.layout ≡ offsets_in C (item_size o.descr) o.layout.shape)
+  pub items : IfOk result (λ o. map (item_from o.descr o.block) (offsets o.layout) ≡ values o.descr o.layout.shape)
+  pub encoded : IfOk result (λ o. o.block ≡ flat_map (encode_item o.descr) (owned_items o))

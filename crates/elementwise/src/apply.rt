@@ -1,6 +1,6 @@
 //! Operations on all items of arrays: operands are cast, stretched and combined.
 ghost use Rattle.std.specs.Prelude.{IfOk, IfSome, IsTrue, map, true, ◌≡◌, ◌≤◌};
-ghost use Rattle.elementwise.specs.Clauses.{can_cast, cast_item, binary_item, binary_result, pairwise, stretched_items, unary_item, unary_result, AreAlike, C, Gives, encode_item, item_from, item_size, items, offsets, offsets_in, owned_items, AreCastable, IsCombined, flat_map};
+ghost use Rattle.elementwise.specs.Clauses.{GivesArray, can_cast, cast_item, binary_item, binary_result, pairwise, unary_item, unary_result, AreAlike, item_from, item_size, items, offsets, AreCastable, IsCombined, stretched};
 
 use crate::castable::keeps_items;
 use crate::casts::cast_items;
@@ -20,18 +20,11 @@ use std::alloc::{AllocError, Global};
 /// Refusals, in this order: those of `promote`, with records as `NotForThisKind`; then those of
 /// `common`, `ShapesDoNotBroadcast` and `TooLarge`.
 pub fn apply2(alloc: Global, op: BinOp, left: Items<'_>, right: Items<'_>) -> Result<Owned, Refusal>
-    ensures gives { Gives (λ o. (o.descr, o.layout.shape)) result
+    ensures { GivesArray
         (binary_result op left.entry.descr.now left.entry.layout.now.shape right.entry.descr.now
-        right.entry.layout.now.shape) }
-    ensures order { IfOk result
-        (λ o. offsets o.layout ≡ offsets_in C (item_size o.descr) o.layout.shape) }
-    ensures items { IfOk result (λ o. map (item_from o.descr o.block) (offsets o.layout)
-        ≡ pairwise (binary_item op o.descr)
-        (stretched_items left.entry.descr.now left.entry.block.now left.entry.layout.now
-        o.layout.shape)
-        (stretched_items right.entry.descr.now right.entry.block.now right.entry.layout.now
-        o.layout.shape)) }
-    ensures encoded { IfOk result (λ o. o.block ≡ flat_map (encode_item o.descr) (owned_items o)) }
+        right.entry.layout.now.shape)
+        (λ descr shape. pairwise (binary_item op descr) (stretched left.entry shape)
+        (stretched right.entry shape)) result }
 {
     let from = scalar_of(left.descr)?;
     let other = scalar_of(right.descr)?;
@@ -52,15 +45,11 @@ pub fn apply2(alloc: Global, op: BinOp, left: Items<'_>, right: Items<'_>) -> Re
 /// The result of an operation on the items of an array, in a block of its own in C order. The
 /// refusals are those of `promote_one`, with records as `NotForThisKind`.
 pub fn apply1(alloc: Global, op: UnOp, operand: Items<'_>) -> Result<Owned, Refusal>
-    ensures gives { Gives (λ o. (o.descr, o.layout.shape)) result
-        (unary_result op operand.entry.descr.now operand.entry.layout.now.shape) }
-    ensures order { IfOk result
-        (λ o. offsets o.layout ≡ offsets_in C (item_size o.descr) o.layout.shape) }
-    ensures items { IfOk result (λ o. map (item_from o.descr o.block) (offsets o.layout)
-        ≡ map (λ offset. unary_item op o.descr
+    ensures { GivesArray
+        (unary_result op operand.entry.descr.now operand.entry.layout.now.shape)
+        (λ descr _. map (λ offset. unary_item op descr
         (item_from operand.entry.descr.now operand.entry.block.now offset))
-        (offsets operand.entry.layout.now)) }
-    ensures encoded { IfOk result (λ o. o.block ≡ flat_map (encode_item o.descr) (owned_items o)) }
+        (offsets operand.entry.layout.now)) result }
 {
     let from = scalar_of(operand.descr)?;
     let scalar = promote_one(op, from)?;

@@ -1,6 +1,6 @@
 //! Comparisons of all items of arrays of byte strings with bytes.
-ghost use Rattle.std.specs.Prelude.{IfOk, List, [], length, map, ℕ, ◌∷◌, ◌≡◌, ◌≤◌};
-ghost use Rattle.elementwise.specs.Clauses.{bytes_compared_result, compared, compared_item, C, Gives, encode_item, item_from, item_size, offsets, offsets_in, owned_items, text, without_nuls, flat_map};
+ghost use Rattle.std.specs.Prelude.{List, [], length, map, ℕ, ◌∷◌, ◌≡◌, ◌≤◌};
+ghost use Rattle.elementwise.specs.Clauses.{GivesArray, bytes_compared_result, compared, compared_item, item_from, offsets, text, without_nuls};
 
 use crate::byte_strings::without_nuls;
 use crate::comparisons::compare_with_one;
@@ -42,15 +42,11 @@ pub fn compare_bytes(
     operand: Items<'_>,
     bytes: &[u8],
 ) -> Result<Owned, Refusal>
-    ensures gives { Gives (λ o. (o.descr, o.layout.shape)) result
-        (bytes_compared_result operand.entry.descr.now operand.entry.layout.now.shape) }
-    ensures order { IfOk result
-        (λ o. offsets o.layout ≡ offsets_in C (item_size o.descr) o.layout.shape) }
-    ensures items { IfOk result (λ o. map (item_from o.descr o.block) (offsets o.layout)
-        ≡ map (λ offset. compared_item comparison
+    ensures { GivesArray
+        (bytes_compared_result operand.entry.descr.now operand.entry.layout.now.shape)
+        (λ _ _. map (λ offset. compared_item comparison
         (item_from operand.entry.descr.now operand.entry.block.now offset)
-        (text (without_nuls bytes.now) ∷ [])) (offsets operand.entry.layout.now)) }
-    ensures encoded { IfOk result (λ o. o.block ≡ flat_map (encode_item o.descr) (owned_items o)) }
+        (text (without_nuls bytes.now) ∷ [])) (offsets operand.entry.layout.now)) result }
 {
     let from = scalar_of(operand.descr)?;
     let Scalar::Bytes(width) = from else {

@@ -1,6 +1,6 @@
 //! Comparisons of all items of arrays.
-ghost use Rattle.std.specs.Prelude.{IfOk, length, map, ◌≡◌, ◌≤◌};
-ghost use Rattle.elementwise.specs.Clauses.{ScalarDescr, compared_item, compared_result, pairwise, stretched_items, Bytes, C, Gives, IsNumber, decode, encode_item, item_from, item_size, max_bytes, offsets, offsets_in, owned_items, size, AreCompared, AreComparedWith, AreComparable, IsComparing, flat_map};
+ghost use Rattle.std.specs.Prelude.{IfOk, length, ◌≡◌, ◌≤◌};
+ghost use Rattle.elementwise.specs.Clauses.{GivesArray, ScalarDescr, compared_item, compared_result, pairwise, Bytes, IsNumber, decode, max_bytes, size, AreCompared, AreComparedWith, AreComparable, IsComparing, stretched};
 
 use crate::apply::make_cast;
 use crate::byte_strings::trimmed_in;
@@ -189,18 +189,11 @@ pub fn compare(
     left: Items<'_>,
     right: Items<'_>,
 ) -> Result<Owned, Refusal>
-    ensures gives { Gives (λ o. (o.descr, o.layout.shape)) result
+    ensures { GivesArray
         (compared_result left.entry.descr.now left.entry.layout.now.shape right.entry.descr.now
-        right.entry.layout.now.shape) }
-    ensures order { IfOk result
-        (λ o. offsets o.layout ≡ offsets_in C (item_size o.descr) o.layout.shape) }
-    ensures items { IfOk result (λ o. map (item_from o.descr o.block) (offsets o.layout)
-        ≡ pairwise (compared_item comparison)
-        (stretched_items left.entry.descr.now left.entry.block.now left.entry.layout.now
-        o.layout.shape)
-        (stretched_items right.entry.descr.now right.entry.block.now right.entry.layout.now
-        o.layout.shape)) }
-    ensures encoded { IfOk result (λ o. o.block ≡ flat_map (encode_item o.descr) (owned_items o)) }
+        right.entry.layout.now.shape)
+        (λ _ shape. pairwise (compared_item comparison) (stretched left.entry shape)
+        (stretched right.entry shape)) result }
 {
     let from = scalar_of(left.descr)?;
     let other = scalar_of(right.descr)?;

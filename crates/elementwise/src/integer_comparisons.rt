@@ -1,6 +1,6 @@
 //! Comparisons of all items of arrays of numbers with one integer.
-ghost use Rattle.std.specs.Prelude.{IfOk, [], map, ◌∷◌, ◌≡◌};
-ghost use Rattle.elementwise.specs.Clauses.{compared_item, integer_compared_result, C, Gives, encode_item, item_from, item_size, number, offsets, offsets_in, owned_items, flat_map};
+ghost use Rattle.std.specs.Prelude.{[], map, ◌∷◌};
+ghost use Rattle.elementwise.specs.Clauses.{GivesArray, compared_item, integer_compared_result, item_from, number, offsets};
 
 use crate::comparison_kernels::says;
 use crate::comparisons::compare_with_one;
@@ -21,15 +21,11 @@ pub fn compare_integer(
     operand: Items<'_>,
     integer: i128,
 ) -> Result<Owned, Refusal>
-    ensures gives { Gives (λ o. (o.descr, o.layout.shape)) result
-        (integer_compared_result operand.entry.descr.now operand.entry.layout.now.shape) }
-    ensures order { IfOk result
-        (λ o. offsets o.layout ≡ offsets_in C (item_size o.descr) o.layout.shape) }
-    ensures items { IfOk result (λ o. map (item_from o.descr o.block) (offsets o.layout)
-        ≡ map (λ offset. compared_item comparison
+    ensures { GivesArray
+        (integer_compared_result operand.entry.descr.now operand.entry.layout.now.shape)
+        (λ _ _. map (λ offset. compared_item comparison
         (item_from operand.entry.descr.now operand.entry.block.now offset) (number integer ∷ []))
-        (offsets operand.entry.layout.now)) }
-    ensures encoded { IfOk result (λ o. o.block ≡ flat_map (encode_item o.descr) (owned_items o)) }
+        (offsets operand.entry.layout.now)) result }
 {
     let from = scalar_of(operand.descr)?;
     if is_text(&from) {

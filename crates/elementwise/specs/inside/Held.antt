@@ -1,7 +1,6 @@
 -- Operands as items of an element type: used in place, or copied to a block of their own.
 use Rattle.std.specs.Prelude.{ℕ, List}
-use Rattle.elementwise.specs.Words.{Descr, LeafValue, items, owned_items, Items}
-use Rattle.elementwise.specs.Results.{stretched_items}
+use Rattle.elementwise.specs.Words.{Descr, LeafValue, items, owned_items}
 use Rattle.elementwise.specs.declared.apply.Held.{Held}
 use Rattle.elementwise.specs.declared.apply.Held.TheVariants.{Kept, Made}
 
@@ -16,7 +15,3 @@ held_descr (Made o) = o.descr
 abbrev pub held_shape : Held → List ℕ
 held_shape (Kept i) = i.layout.now.shape
 held_shape (Made o) = o.layout.shape
-
--- borrowed items, stretched to a shape
-abbrev pub stretched : Items → List ℕ → List (List LeafValue)
-stretched i shape = stretched_items i.descr.now i.block.now i.layout.now shape

@@ -1,4 +1,4 @@
-use Rattle.std.proofs.Common.{◌≡◌, ◌+◌, ◌*◌, ◌≤◌, List, [], ◌∷◌, All, length, map, sym, ap, subst, ◌∙◌, arith}
+use Rattle.std.proofs.Common.{◌≡◌, ◌*◌, ◌≤◌, List, [], ◌∷◌, length, map, sym, ap, ◌∙◌, arith}
 use Rattle.elementwise.proofs.Words.{mul-le-mul_left, ScalarDescr, LeafValue, size, item_size, item_from, count, offsets, can_stretch, cast_item, pairwise, value_in, stretched_items, left_of, right_of, target_of, gives}
 use Rattle.elementwise.proofs.PairLaws.{pairwise-map}
 use Rattle.elementwise.proofs.StretchedLaws.{inside}

@@ -1,14 +1,13 @@
 use Rattle.std.proofs.Common.{◌≤◌, ◌-◌, [], ◌∷◌, ◌++◌, length, map, replicate, inr, refl, sym, ap, subst, ◌∙◌}
-use Rattle.elementwise.proofs.Words.{without_nuls-more, without_nuls-twice, err_from_is_err_and, ScalarDescr, Bytes, BoolScalar, IsMade, compared, offsets, is_text, text, without_nuls, item_from, compared_item, is_scalar}
+use Rattle.elementwise.proofs.Words.{without_nuls-more, without_nuls-twice, ScalarDescr, Bytes, BoolScalar, IsMade, compared, offsets, is_text, text, without_nuls, item_from, compared_item, is_scalar}
 use Rattle.elementwise.proofs.ComparedLaws.{comparable_scalars}
-use Rattle.elementwise.proofs.MadeLaws.{made-gives, made-order, made-items, made-encoded}
+use Rattle.elementwise.proofs.MadeLaws.{made-given, refused}
 use Rattle.elementwise.proofs.BytesComparedLaws.{operand_refused, number_refused, one_given, items_within}
 use Rattle.elementwise.proofs.byte_comparisons.compare_bytes.Goals as goal
 
-pub returns-in_err-from-clause-gives : goal.returns-in_err-from-clause-gives
-returns-in_err-from-clause-gives c =
-    let p = err_from_is_err_and c.from_residual.result c.from_residual.ensures.1 in
-    rw (p.1, p.2) (inr (operand_refused c.args.operand.descr.now c.args.operand.layout.now.shape c.in_err-from.field-0.0 c.in_err-from.ensures))
+pub returns-in_err-from : goal.returns-in_err-from
+returns-in_err-from c =
+    refused _ _ _ _ c.from_residual.ensures.1 (inr (operand_refused c.args.operand.descr.now c.args.operand.layout.now.shape c.in_err-from.field-0.0 c.in_err-from.ensures))
 
 pub returns-in_default : goal.returns-in_default
 returns-in_default c = record { gives = inr (number_refused c.args.operand.descr.now c.args.operand.layout.now.shape c.in_ok-from.from c.in_ok-from.ensures c.in_default.not-Bytes); order = tt; items = tt; encoded = tt }
@@ -34,9 +33,4 @@ returns c =
     (λ item few. c.within-comparison.ensures.same item (subst (λ n. length item ≤ n) (sym c.get-len.ensures.value) few) ∙ λ i. compared c.args.comparison (text (without_nuls item)) (text (c.without_nuls.ensures i))) in
     let made = subst (λ values. IsMade d shape values c.in_ok-compare_with_one.field-0)
     (ap (λ k. map (λ o. compared_item c.within-comparison.result.0 (item_from x.descr.now x.block.now o) (text k ∷ [])) (offsets x.layout.now)) same ∙ told) c.in_ok-compare_with_one.ensures in
-    record {
-      gives = made-gives d shape _ _ made _ (one_given x.descr.now shape c.in_ok-from.from c.in_ok-from.ensures (ap is_text c.in-Bytes.is));
-      order = made-order d shape _ _ made;
-      items = made-items d shape _ _ made (λ _ _. map (λ offset. compared_item c.args.comparison (item_from x.descr.now x.block.now offset) (text (without_nuls c.args.bytes.now) ∷ [])) (offsets x.layout.now)) refl;
-      encoded = made-encoded d shape _ _ made;
-    }
+    made-given d shape _ _ made _ _ (one_given x.descr.now shape c.in_ok-from.from c.in_ok-from.ensures (ap is_text c.in-Bytes.is)) refl

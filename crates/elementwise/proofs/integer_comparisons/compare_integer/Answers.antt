@@ -1,21 +1,20 @@
-use Rattle.std.proofs.Common.{◌≡◌, [], ◌∷◌, Ok, inr, length, map, replicate, pos, not, int_lt, refl, sym, ap, subst, ◌∙◌}
-use Rattle.elementwise.proofs.Words.{false≢true, w128, to_z-of_z, length-replicate, err_from_is_err_and, ScalarDescr, BoolScalar, IsNumber, decode, wrap, number, little, says, item_from, offsets, compared_item, is_scalar, AreComparedWith}
+use Rattle.std.proofs.Common.{◌≡◌, Ok, inr, length, replicate, pos, not, int_lt, refl, sym, ap, subst, ◌∙◌}
+use Rattle.elementwise.proofs.Words.{false≢true, w128, to_z-of_z, length-replicate, ScalarDescr, BoolScalar, IsNumber, decode, wrap, number, little, says, is_scalar, AreComparedWith}
 use Rattle.elementwise.proofs.WorkLaws.{number-little}
 use Rattle.std.proofs.lemmas.Bool.Decides.{Decides-int_eq}
 use Rattle.elementwise.proofs.CutLaws.{no_text}
 use Rattle.elementwise.proofs.ComparedLaws.{comparable_scalars, comparable_numbers}
-use Rattle.elementwise.proofs.MadeLaws.{made-as, made-gives, made-order, made-items, made-encoded, over-made}
+use Rattle.elementwise.proofs.MadeLaws.{made-as, made-given, refused, over-made}
 use Rattle.elementwise.proofs.IntegerLaws.{all_beyond, alike_made, operand_refused, text_refused, one_given}
 use Rattle.elementwise.proofs.integer_comparisons.compare_integer.Goals as goal
 
-pub returns-in_err-from-clause-gives : goal.returns-in_err-from-clause-gives
-returns-in_err-from-clause-gives c =
-    let p = err_from_is_err_and c.from_residual.result c.from_residual.ensures.1 in
-    rw (p.1, p.2) (inr (operand_refused c.args.operand.descr.now c.args.operand.layout.now.shape c.in_err-from.field-0.0 c.in_err-from.ensures))
+pub returns-in_err-from : goal.returns-in_err-from
+returns-in_err-from c =
+    refused _ _ _ _ c.from_residual.ensures.1 (inr (operand_refused c.args.operand.descr.now c.args.operand.layout.now.shape c.in_err-from.field-0.0 c.in_err-from.ensures))
 
-pub returns-then-is_text-clause-gives : goal.returns-then-is_text-clause-gives
-returns-then-is_text-clause-gives c =
-    inr (text_refused c.args.operand.descr.now c.args.operand.layout.now.shape c.in_ok-from.from c.in_ok-from.ensures (sym c.is_text.ensures ∙ c.if-is_text.true))
+pub returns-then-is_text : goal.returns-then-is_text
+returns-then-is_text c =
+    record { gives = inr (text_refused c.args.operand.descr.now c.args.operand.layout.now.shape c.in_ok-from.from c.in_ok-from.ensures (sym c.is_text.ensures ∙ c.if-is_text.true)); order = tt; items = tt; encoded = tt }
 
 -- ---- an integer that the type holds
 
@@ -38,12 +37,7 @@ returns-then-is_value c =
     let made = subst (λ value. AreComparedWith c.args.comparison x value c.in_ok-compare_with_one.field-0)
     (ap (decode s) wrote ∙ c.num_write.ensures.reads_back ∙ ap number held ∙ ap number (to_z-of_z w128 z c.ranges.integer))
     c.in_ok-compare_with_one.ensures in
-    record {
-      gives = made-gives (ScalarDescr BoolScalar) shape _ _ made _ (one_given x.descr.now shape c.in_ok-from.from c.in_ok-from.ensures (sym c.is_text.ensures ∙ c.if-is_text.false));
-      order = made-order (ScalarDescr BoolScalar) shape _ _ made;
-      items = made-items (ScalarDescr BoolScalar) shape _ _ made (λ _ _. map (λ offset. compared_item c.args.comparison (item_from x.descr.now x.block.now offset) (number z ∷ [])) (offsets x.layout.now)) refl;
-      encoded = made-encoded (ScalarDescr BoolScalar) shape _ _ made;
-    }
+    made-given (ScalarDescr BoolScalar) shape _ _ made _ _ (one_given x.descr.now shape c.in_ok-from.from c.in_ok-from.ensures (sym c.is_text.ensures ∙ c.if-is_text.false)) refl
 
 -- ---- an integer beyond all numbers of the type
 
@@ -65,9 +59,4 @@ returns c =
     (all_beyond c.args.comparison from x.descr.now x.block.now x.layout.now z holds (is_scalar x.descr.now from c.in_ok-from.ensures) (rw c.bytes.ensures at c.note_slice.ensures) (no_text from (sym c.is_text.ensures ∙ c.if-is_text.false)) beyond
     (c.says-holds.ensures ∙ λ i. says c.args.comparison (above i) (not (above i))))
     (over-made (ScalarDescr BoolScalar) (ScalarDescr BoolScalar) shape _ (Ok c.in_ok-over.field-0) _ refl owned.descr owned.shape owned.order owned.block alike.0 alike.1) in
-    record {
-      gives = made-gives (ScalarDescr BoolScalar) shape _ _ made _ (one_given x.descr.now shape from c.in_ok-from.ensures (sym c.is_text.ensures ∙ c.if-is_text.false));
-      order = made-order (ScalarDescr BoolScalar) shape _ _ made;
-      items = made-items (ScalarDescr BoolScalar) shape _ _ made (λ _ _. map (λ offset. compared_item c.args.comparison (item_from x.descr.now x.block.now offset) (number z ∷ [])) (offsets x.layout.now)) refl;
-      encoded = made-encoded (ScalarDescr BoolScalar) shape _ _ made;
-    }
+    made-given (ScalarDescr BoolScalar) shape _ _ made _ _ (one_given x.descr.now shape from c.in_ok-from.ensures (sym c.is_text.ensures ∙ c.if-is_text.false)) refl
