@@ -4,6 +4,7 @@ use Rattle.elementwise.proofs.Words.{take_all, ints, length-map, map-append, sam
 use Rattle.elementwise.proofs.ColumnLaws.{part-within, run-parts}
 use Rattle.elementwise.proofs.EncodedLaws.{items-append, no-items}
 use Rattle.elementwise.proofs.PairLaws.{length-pairwise, pairwise-append}
+use Rattle.elementwise.proofs.RowLaws.{count-run}
 use Rattle.elementwise.proofs.StretchedLaws.{stretches-itself}
 use Rattle.elementwise.proofs.WorkLaws.{pair_reads_back}
 
@@ -116,10 +117,6 @@ given-more p b run other k n lies lies' even low =
     let many' : length (run_items y (run_front k other)) ≡ k = length-map (run_offsets (run_front k other)) read' ∙ length-run_offsets (run_front k other) in
     (λ i. pairwise give (first i) (second i))
     ∙ pairwise-append give (run_items x (run_front k run)) (run_items y (run_front k other)) (run_items x (run_part run k n)) (run_items y (run_part other k n)) (many ∙ sym many')
-
--- a run of all items of a layout
-pub count-run : (l : Layout) (run : Run) → run_offsets run ≡ offsets l → run.count ≡ count l.shape
-count-run l run same = sym (length-run_offsets run) ∙ ap length same ∙ length-offsets l
 
 -- the items along that run, in the layout's own shape
 run-stretched : (x : Items) (run : Run) (shape : List ℕ) → run_offsets run ≡ offsets x.layout.now → x.layout.now.shape ≡ shape → run_items x run ≡ stretched x shape

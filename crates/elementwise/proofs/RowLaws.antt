@@ -1,6 +1,6 @@
 -- Items that are written at equal steps: they are read back, and the other bytes do not change.
 use Rattle.std.proofs.Common.{◌≡◌, ◌+◌, ◌-◌, ◌*◌, ◌<◌, ◌≤◌, ◌⊎◌, inl, inr, ℕ, suc, pos, List, [], ◌∷◌, map, length, get_or, All, refl, sym, ap, subst, ◌∙◌, arith, suc-mul, mul-le-mul_right}
-use Rattle.elementwise.proofs.Words.{cases_lt, All-rest, All-head, All-from_get_or, ints, put, item_at, place, EachWithin, length-put, item_at-put_same, item_at-put_apart, Run, place-at, length-row, row_offsets, with_items}
+use Rattle.elementwise.proofs.Words.{cases_lt, Items, Layout, BeginsWithin, item_size, count, offsets, length-offsets, run_offsets, length-run_offsets, run-within, All-rest, All-head, All-from_get_or, ints, put, item_at, place, EachWithin, length-put, item_at-put_same, item_at-put_apart, Run, place-at, length-row, row_offsets, with_items}
 
 -- rows of items
 pub row-within : (len at item width n : ℕ) → width ≤ item → at + n * item ≤ len + item - width → EachWithin len at (pos item) width n
@@ -96,3 +96,13 @@ module _ (item n len : ℕ) (room : n * item ≤ len) where
       let low : k < n = omega (arith, inside, length-row at item n) in
       let most : suc j * item ≤ k * item = mul-le-mul_right item before in
       inl (omega (arith, most, fits, suc-mul j item, row-entry at item n j (omega (arith, before, low)), row-entry at item n k low))
+
+-- ---- runs of all items
+
+-- a run of all items of a layout
+pub count-run : (l : Layout) (run : Run) → run_offsets run ≡ offsets l → run.count ≡ count l.shape
+count-run l run same = sym (length-run_offsets run) ∙ ap length same ∙ length-offsets l
+
+-- they lie within the block
+pub run-inside : (x : Items) (run : Run) → run_offsets run ≡ offsets x.layout.now → BeginsWithin run → EachWithin (length x.block.now) run.offset run.step (item_size x.descr.now) run.count
+run-inside x run same begins = run-within (length x.block.now) (item_size x.descr.now) run begins (subst (All (λ offset. offset + item_size x.descr.now ≤ length x.block.now)) (sym same) x.inside)

@@ -1,7 +1,7 @@
 //! Combines the items of two operands, row by row.
 ghost use Rattle.elementwise.specs.Results.{pairwise};
-ghost use Rattle.std.specs.Prelude.{IfSome, List, length, ℕ, ◌*◌, ◌+◌, ◌≡◌, ◌≤◌};
-ghost use Rattle.elementwise.specs.Words.{BeginsWithin, EachWithin, item_size, offsets, run_offsets, concat};
+ghost use Rattle.std.specs.Prelude.{IfSome, List, ℕ, ◌*◌, ◌≡◌, ◌≤◌};
+ghost use Rattle.elementwise.specs.Words.{item_size, offsets, run_offsets, concat};
 ghost use Rattle.elementwise.specs.inside.PairPasses.{pair_from};
 ghost use Rattle.elementwise.specs.inside.Added.{AreAdded};
 
@@ -42,7 +42,7 @@ pub(crate) trait Pass {
 }
 
 impl<'a, 'b> Operands<'a, 'b> {
-    ghost use Rattle.elementwise.specs.inside.Operands.{pairs_of, AreAllMade};
+    ghost use Rattle.elementwise.specs.inside.Operands.{pairs_of, AreAllMade, IsRow};
 
     /// All pairs of items as a single row, if they are one.
     pub(crate) fn as_row(self) -> Option<RunPair>
@@ -50,8 +50,7 @@ impl<'a, 'b> Operands<'a, 'b> {
             (λ row. run_offsets row.first ≡ offsets self.entry.left.layout.now) }
         ensures second { IfSome result
             (λ row. run_offsets row.second ≡ offsets self.entry.right.layout.now) }
-        ensures first_lies { IfSome result (λ row. BeginsWithin row.first) }
-        ensures second_lies { IfSome result (λ row. BeginsWithin row.second) }
+        ensures row { IfSome result (IsRow self.entry) }
     {
         let first = self.left.layout.as_one_run()?;
         let second = self.right.layout.as_one_run()?;
@@ -63,11 +62,7 @@ impl<'a, 'b> Operands<'a, 'b> {
         requires reads { P.Reads pass.now (item_size self.left.descr.now)
             (item_size self.right.descr.now) }
         requires room { row.first.count * P.width pass.now ≤ block.1 }
-        requires even { row.first.count ≡ row.second.count }
-        requires first { EachWithin (length self.left.block.now) row.first.offset row.first.step
-            (item_size self.left.descr.now) row.first.count }
-        requires second { EachWithin (length self.right.block.now) row.second.offset row.second.step
-            (item_size self.right.descr.now) row.second.count }
+        requires row { IsRow self row }
         ensures { AreAdded (row.first.count * P.width pass.now)
             (concat (pairwise
             (pair_from (P.makes pass.now) (item_size self.entry.left.descr.now)

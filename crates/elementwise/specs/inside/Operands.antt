@@ -1,6 +1,6 @@
 -- The results on all pairs of items of two operands.
-use Rattle.std.specs.Prelude.{◌≡◌, ◌≤◌, ◌*◌, ℕ, List, [], ◌∷◌}
-use Rattle.elementwise.specs.Words.{concat, LeafValue, item_size, items, count, offsets, size, max_bytes, Owned, ScalarDescr}
+use Rattle.std.specs.Prelude.{◌≡◌, ◌≤◌, ◌*◌, ℕ, List, [], ◌∷◌, length}
+use Rattle.elementwise.specs.Words.{concat, EachWithin, RunPair, LeafValue, item_size, items, count, offsets, size, max_bytes, Owned, ScalarDescr}
 use Rattle.elementwise.specs.Results.{pairwise, value_in}
 use Rattle.elementwise.specs.inside.PairPasses.{pair_from}
 use Rattle.elementwise.specs.inside.Added.{AreAdded}
@@ -12,6 +12,12 @@ use Rattle.elementwise.specs.declared.row_pairs.Operands.{Operands}
 -- the number of pairs of items
 abbrev pub pairs_of : Operands → ℕ
 pairs_of o = count o.left.layout.now.shape
+
+-- the runs of a row have equally many items, which lie within the blocks
+pub record IsRow (o : Operands) (row : RunPair) : Type 0 where
+  pub even : row.first.count ≡ row.second.count
+  pub first : EachWithin (length o.left.block.now) row.first.offset row.first.step (item_size o.left.descr.now) row.first.count
+  pub second : EachWithin (length o.right.block.now) row.second.offset row.second.step (item_size o.right.descr.now) row.second.count
 
 -- the bytes that `f` makes of each pair, concatenated
 abbrev pub made_of_all : (List ℕ → List ℕ → List ℕ) → Operands → List ℕ

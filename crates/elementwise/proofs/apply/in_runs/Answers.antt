@@ -1,6 +1,6 @@
 use Rattle.std.proofs.Common.{◌≡◌, rules, ap, arith}
 use Rattle.elementwise.proofs.Words.{count, max_bytes}
-use Rattle.elementwise.proofs.ChunkLaws.{count-run}
+use Rattle.elementwise.proofs.RowLaws.{count-run}
 use Rattle.elementwise.proofs.apply.in_runs.Goals as goal
 
 pub invariant_of-result : goal.invariant_of-result

@@ -1,8 +1,8 @@
-use Rattle.std.proofs.Common.{◌≡◌, ◌+◌, ◌*◌, ◌≤◌, ℕ, List, Result, Ok, Err, IfOk, All, pos, w64, length, sym, ap, subst, ◌∙◌, arith}
-use Rattle.elementwise.proofs.Words.{ints, IfOk-weaker, AllocError, to_z, item_size, EachWithin, max_bytes, count, offsets, length-offsets, run_offsets, length-run_offsets, row_offsets, row-multiples, multiples, run-within, items_at, cast_items, AreItems}
+use Rattle.std.proofs.Common.{◌≡◌, ◌*◌, ℕ, List, Result, Ok, Err, IfOk, pos, w64, length, sym, ap, subst, ◌∙◌, arith}
+use Rattle.elementwise.proofs.Words.{ints, IfOk-weaker, AllocError, to_z, item_size, EachWithin, max_bytes, count, offsets, length-offsets, run_offsets, row_offsets, row-multiples, multiples, items_at, cast_items, AreItems}
 use Rattle.elementwise.proofs.ColumnLaws.{same-cast}
 use Rattle.elementwise.proofs.CutLaws.{first-bytes-cast}
-use Rattle.elementwise.proofs.RowLaws.{row-within}
+use Rattle.elementwise.proofs.RowLaws.{count-run, row-within, run-inside}
 use Rattle.elementwise.proofs.casts.cast_block.Goals as goal
 
 -- ---- items that are one run
@@ -12,9 +12,9 @@ invariant_of-items c =
     let x = c.args.from in
     let run = c.in-Some.run' in
     let same = c.in-Some.ensures.items in
-    let many : run.count ≡ count x.layout.now.shape = sym (length-run_offsets run) ∙ ap length same ∙ length-offsets x.layout.now in
+    let many : run.count ≡ count x.layout.now.shape = count-run x.layout.now run same in
     let width = item_size x.descr.now in
-    let lies = run-within (length x.block.now) width run (c.in-Some.ensures.lie max_bytes 1 x.layout.now.within_limit) (subst (All (λ offset. offset + width ≤ length x.block.now)) (sym same) x.inside) in
+    let lies = run-inside x run same (c.in-Some.ensures.lie max_bytes 1 x.layout.now.within_limit) in
     record {
       few = omega (arith, many, c.items-count.ensures.value, c.items-count.ensures.limit);
       within = subst (λ bytes. EachWithin (length bytes) run.offset run.step c.size-width.result run.count) (sym c.bytes.ensures) (subst (λ w. EachWithin (length x.block.now) run.offset run.step w run.count) (sym c.size-width.ensures.value) lies);
@@ -22,9 +22,7 @@ invariant_of-items c =
 
 pub cast_run-requires-clause-few : goal.cast_run-requires-clause-few
 cast_run-requires-clause-few c =
-    let run = c.in-Some.run' in
-    let l = c.args.from.layout.now in
-    omega (arith, ap (λ n. n * item_size c.args.to.now) (sym (length-run_offsets run) ∙ ap length c.in-Some.ensures.items ∙ length-offsets l), c.requires.few)
+    omega (arith, ap (λ n. n * item_size c.args.to.now) (count-run c.args.from.layout.now c.in-Some.run' c.in-Some.ensures.items), c.requires.few)
 
 -- ---- items that are gathered first
 

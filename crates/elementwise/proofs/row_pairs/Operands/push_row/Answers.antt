@@ -7,6 +7,6 @@ returns g c =
     let o = c.args.self in
     record {
       bytes = row-made (g.P.Pass.makes c.args.pass.now) (item_size o.left.descr.now) (item_size o.right.descr.now) _ _ o.left.block.now o.right.block.now _ _ c.args.row c.args.block.0 c.push_row.result.0
-          c.size.ensures.value c.size-2.ensures.value c.bytes.ensures c.bytes-2.ensures c.requires.even c.requires.first c.requires.second c.push_row.ensures.bytes;
+          c.size.ensures.value c.size-2.ensures.value c.bytes.ensures c.bytes-2.ensures c.requires.row.even c.requires.row.first c.requires.row.second c.push_row.ensures.bytes;
       left = c.push_row.ensures.left;
     }

@@ -1,5 +1,5 @@
 use Rattle.std.proofs.Common.{◌≡◌, ◌+◌, ◌*◌, ◌≤◌, ◌++◌, All, length, sym, ap, subst, ◌∙◌, arith, rules}
-use Rattle.elementwise.proofs.Words.{concat, All-rest, item_size, EachWithin, max_bytes, offsets, length-offsets, run_pairs, runs-within, next_pair, pairwise, pair_from, pairs_of}
+use Rattle.elementwise.proofs.Words.{concat, All-rest, item_size, max_bytes, offsets, length-offsets, run_pairs, runs-within, next_pair, pairwise, pair_from, pairs_of, IsRow}
 use Rattle.elementwise.proofs.PairLaws.{firsts, seconds}
 use Rattle.elementwise.proofs.AppendedLaws.{pushed-next, bytes-next}
 use Rattle.elementwise.proofs.row_pairs.Operands.push_rows.Goals as goal
@@ -27,23 +27,18 @@ loop-row-init g c =
       bytes = λ i. c.args.block.0 ++ concat (pairwise make (xs i) (ys i));
       room = omega (arith, many, c.requires.room);
       left = omega (arith, many);
-      even = subst (All (λ row. row.first.count ≡ row.second.count)) (sym are) ens.counts;
-      first = subst (All (λ row. EachWithin len row.first.offset row.first.step width row.first.count)) (sym are) (runs-within len width (λ row. row.first) (run_pairs l m) (ens.first_lie max_bytes 1 l.within_limit) ends);
-      second = subst (All (λ row. EachWithin len' row.second.offset row.second.step width' row.second.count)) (sym are) (runs-within len' width' (λ row. row.second) (run_pairs l m) (ens.second_lie max_bytes 1 m.within_limit) ends');
+      rows = subst (All (IsRow o)) (sym are) (λ k d low. record {
+        even = ens.counts k d low;
+        first = runs-within len width (λ row. row.first) (run_pairs l m) (ens.first_lie max_bytes 1 l.within_limit) ends k d low;
+        second = runs-within len' width' (λ row. row.second) (run_pairs l m) (ens.second_lie max_bytes 1 m.within_limit) ends' k d low;
+      });
     }
 
 pub push_row-block-requires-clause-room : goal.push_row-block-requires-clause-room
 push_row-block-requires-clause-room g c = omega (arith, bytes-next (g.P.Pass.width c.args.pass.now) _ _ c.in-Some.row c.in-Some.ensures.steps, c.loop-row.invariant.room)
 
-pub push_row-block-requires-clause-first : goal.push_row-block-requires-clause-first
-push_row-block-requires-clause-first g c =
-    let left = c.args.self.left in
-    next_pair (λ q. EachWithin (length left.block.now) q.first.offset q.first.step (item_size left.descr.now) q.first.count) _ _ c.in-Some.row c.in-Some.ensures.steps c.loop-row.invariant.first
-
-pub push_row-block-requires-clause-second : goal.push_row-block-requires-clause-second
-push_row-block-requires-clause-second g c =
-    let right = c.args.self.right in
-    next_pair (λ q. EachWithin (length right.block.now) q.second.offset q.second.step (item_size right.descr.now) q.second.count) _ _ c.in-Some.row c.in-Some.ensures.steps c.loop-row.invariant.second
+pub push_row-block-requires-clause-row : goal.push_row-block-requires-clause-row
+push_row-block-requires-clause-row g c = next_pair (IsRow c.args.self) _ _ c.in-Some.row c.in-Some.ensures.steps c.loop-row.invariant.rows
 
 pub loop-row-preserved : goal.loop-row-preserved
 loop-row-preserved g c =
@@ -57,14 +52,11 @@ loop-row-preserved g c =
     let row = c.in-Some.row in
     let steps = c.in-Some.ensures.steps in
     let more = bytes-next wide _ _ row steps in
-    let even = next_pair (λ q. q.first.count ≡ q.second.count) _ _ row steps inv.even in
     record {
-      bytes = pushed-next (pair_from (g.P.Pass.makes c.args.pass.now) width width' left right) _ _ row c.loop-row.block.0 c.push_row-block.result.0 _ steps even c.push_row-block.ensures.bytes inv.bytes;
+      bytes = pushed-next (pair_from (g.P.Pass.makes c.args.pass.now) width width' left right) _ _ row c.loop-row.block.0 c.push_row-block.result.0 _ steps (next_pair (IsRow o) _ _ row steps inv.rows).even c.push_row-block.ensures.bytes inv.bytes;
       room = omega (arith, more, inv.room, c.push_row-block.ensures.left);
       left = omega (arith, more, inv.left, c.push_row-block.ensures.left);
-      even = All-rest (λ q. q.first.count ≡ q.second.count) _ _ _ steps inv.even;
-      first = All-rest (λ q. EachWithin (length left) q.first.offset q.first.step width q.first.count) _ _ _ steps inv.first;
-      second = All-rest (λ q. EachWithin (length right) q.second.offset q.second.step width' q.second.count) _ _ _ steps inv.second;
+      rows = All-rest (IsRow o) _ _ _ steps inv.rows;
     }
 
 pub returns : goal.returns

@@ -1,5 +1,5 @@
 use Rattle.std.proofs.Common.{◌≡◌, ◌+◌, ◌*◌, ◌≤◌, ◌++◌, All, length}
-use Rattle.elementwise.proofs.Words.{concat, item_size, EachWithin, pairwise, pair_from, pairs_of, made_of_all}
+use Rattle.elementwise.proofs.Words.{concat, item_size, pairwise, pair_from, pairs_of, made_of_all, IsRow}
 use Rattle.elementwise.proofs.PairLaws.{firsts, seconds}
 use Rattle.elementwise.proofs.row_pairs.Operands.push_rows.Given as goal
 
@@ -15,7 +15,5 @@ invariant-loop-row g l =
       bytes : l.block.0 ++ concat (pairwise make (firsts l.row-iterator) (seconds l.row-iterator)) ≡ l.fn.block.0 ++ made_of_all (g.P.Pass.makes l.pass) o;
       room : length (firsts l.row-iterator) * wide ≤ l.block.1;
       left : pairs_of o * wide + l.block.1 ≡ l.fn.block.1 + length (firsts l.row-iterator) * wide;
-      even : All (λ row. row.first.count ≡ row.second.count) l.row-iterator;
-      first : All (λ row. EachWithin (length o.left.block.now) row.first.offset row.first.step width row.first.count) l.row-iterator;
-      second : All (λ row. EachWithin (length o.right.block.now) row.second.offset row.second.step width' row.second.count) l.row-iterator;
+      rows : All (IsRow o) l.row-iterator;
     }
