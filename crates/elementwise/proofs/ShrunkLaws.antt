@@ -66,17 +66,6 @@ pairs_spread f b d d' block block' l l' small small' once shape made is is' ther
     ∙ seen-pairs once shape is.can f xs ys (length-items d block small once is.shape_is) (length-items d' block' small' once is'.shape_is)
     ∙ λ i. pairwise f (sym (whole d block l small once shape is) i) (sym (whole d' block' l' small' once shape is') i)
 
--- the results on single items
-pub each_spread : (f : List LeafValue → List LeafValue) (b d : Descr) (block : List ℕ) (l small : Layout) (once : List ℕ) (made : Owned) → IsShrunk small l once l.shape →
-    IsMade b small.shape (map (λ offset. f (item_from d block offset)) (offsets small)) made → stretched_items made.descr made.block made.layout l.shape ≡ map (λ offset. f (item_from d block offset)) (offsets l)
-each_spread f b d block l small once made is there =
-    let read = λ (offset : ℕ). f (item_from d block offset) in
-    result-whole made once l.shape is.can (there.shape_is ∙ is.shape_is)
-    ∙ ap (through once l.shape) ((λ i. map (item_from (there.descr_is i) made.block) (offsets made.layout)) ∙ there.items)
-    ∙ sym (seen once l.shape is.can read (offsets small) (length-offsets small ∙ ap count is.shape_is))
-    ∙ (λ i. map read (view_through (offsets small) (sym is.shape_is i) l.shape (broadcast_index (sym is.shape_is i))))
-    ∙ ap (map read) (is.places ∙ stretched-self l)
-
 pub bools_again : (d : Descr) (block os : List ℕ) → d ≡ ScalarDescr BoolScalar → map (λ o. cast_item d (ScalarDescr BoolScalar) (item_from d block o)) os ≡ map (item_from d block) os
 bools_again d block os is =
     (λ i. map (λ o. cast_item (is i) (ScalarDescr BoolScalar) (item_from (is i) block o)) os)

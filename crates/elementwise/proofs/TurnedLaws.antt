@@ -1,12 +1,7 @@
 -- Results that are made column by column, and read in C order.
-use Rattle.std.proofs.Common.{◌≡◌, ◌+◌, ◌*◌, ◌<◌, ℕ, zero, suc, List, [], ◌∷◌, ◌++◌, Option, Some, IfSome, length, reverse, get_or, take, drop, sym, ap, subst, ◌∙◌, arith, zero-mul, suc-mul, mul_comm, length-append}
-use Rattle.elementwise.proofs.Words.{concat, Each, take-append_seam, drop-append-add, get_or-map, length-map-range_with_len, get_or-map-range_with_len, item_at, all_joined, Layout, fortran_order, count, rank, rank-lt, index_at, multiples, count-reverse, IsIndex-reverse, items_at, length-fortran, fortran-at, Layouts, IsTurned, pairwise}
+use Rattle.std.proofs.Common.{◌≡◌, ◌+◌, ◌*◌, ◌<◌, ℕ, zero, suc, List, [], ◌∷◌, ◌++◌, length, reverse, get_or, take, drop, sym, ap, ◌∙◌, arith, zero-mul, suc-mul, mul_comm, length-append}
+use Rattle.elementwise.proofs.Words.{concat, Each, take-append_seam, drop-append-add, get_or-map, length-map-range_with_len, get_or-map-range_with_len, item_at, all_joined, fortran_order, count, rank, rank-lt, index_at, multiples, count-reverse, IsIndex-reverse, items_at, length-fortran, fortran-at, pairwise}
 use Rattle.elementwise.proofs.PairLaws.{length-pairwise, get_or-pairwise}
-
--- both layouts with their axes reversed, if there are any
-pub both_turned : (found : Option Layouts) (turned : Layouts) (l r : Layout) → found ≡ Some turned → IfSome found (λ t. IsTurned t.first l) → IfSome found (λ t. IsTurned t.second r) → IsTurned turned.first l × IsTurned turned.second r
-both_turned found turned l r is first second =
-    (subst (λ (o : Option Layouts). IfSome o (λ t. IsTurned t.first l)) is first, subst (λ (o : Option Layouts). IfSome o (λ t. IsTurned t.second r)) is second)
 
 -- ---- concatenated items of one width
 

@@ -19,12 +19,9 @@ fn can_cast_scalar(from: &Scalar, to: &Scalar) -> bool
 fn can_cast_to_all(from: &Scalar, leaves: &[Leaf]) -> bool
     ensures { result ≡ list_all (λ leaf. can_cast_scalar from.now leaf.scalar) leaves.now }
 {
-    for leaf in leaves {
-        if !can_cast_scalar(from, &leaf.scalar) {
-            return false;
-        }
-    }
-    true
+    leaves
+        .iter()
+        .all(|leaf| can_cast_scalar(from, &leaf.scalar))
 }
 
 /// Whether a field can be cast to a field.

@@ -46,7 +46,6 @@ impl<S: Number, P: Ordered, T: Number, Q: Ordered> LeafCast for CastingNumbers<S
 #[derive(Clone, Copy, Drop)]
 pub(crate) struct Cutting {
     pub(crate) width: usize,
-    pub(crate) ghost some: { 1 ≤ width },
 }
 
 impl LeafCast for Cutting {

@@ -71,8 +71,8 @@ fn step(layout: &Layout) -> usize {
 /// Both layouts with their axes reversed, if that brings successive items closer together and
 /// leaves no short rows.
 fn columns(alloc: Global, left: &Layout, right: &Layout) -> Result<Option<Layouts>, AllocError>
-    ensures first { IfOk result (λ columns. IfSome columns (λ c. IsTurned c.first left.now)) }
-    ensures second { IfOk result (λ columns. IfSome columns (λ c. IsTurned c.second right.now)) }
+    ensures { IfOk result (λ columns. IfSome columns (λ c. IsTurned c.first left.now
+        × IsTurned c.second right.now)) }
 {
     let first = Layout::reversed(alloc, left)?;
     let second = Layout::reversed(alloc, right)?;

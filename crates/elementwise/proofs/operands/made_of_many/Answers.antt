@@ -2,7 +2,7 @@ use Rattle.std.proofs.Common.{◌≡◌, [], ◌∷◌, ◌+◌, ◌*◌, ◌≤
 use Rattle.elementwise.proofs.Words.{concat, ScalarDescr, LeafValue, size, item_size, fortran_order, count, offsets, length-offsets, offsets_within, count-reverse, fortran-all, pairwise, value_in, pair_from, left_of, right_of, target_of, gives, pair_made}
 use Rattle.elementwise.proofs.PairedLaws.{each-wide, pairs_made}
 use Rattle.elementwise.proofs.MadeLaws.{made-in}
-use Rattle.elementwise.proofs.TurnedLaws.{AreWide, both_turned, turned-back, turned-long}
+use Rattle.elementwise.proofs.TurnedLaws.{AreWide, turned-back, turned-long}
 use Rattle.elementwise.proofs.operands.made_of_many.Goals as goal
 
 -- ---- row by row
@@ -34,14 +34,14 @@ returns-in_default c =
 pub invariant_of-turned : goal.invariant_of-turned
 invariant_of-turned c =
     let x = c.args.operands.left in let l = x.layout.now in let r = c.args.operands.right.layout.now in
-    let both = both_turned c.in_ok-columns.field-0 c.in-Some.columns l r c.in-Some.is c.in_ok-columns.ensures.first c.in_ok-columns.ensures.second in
+    let both = rw c.in-Some.is at c.in_ok-columns.ensures in
     let ends = λ (o : ℕ). o + item_size x.descr.now ≤ length x.block.now in
     record { inside = subst (All ends) (sym both.0.places) (fortran-all ends l.shape (offsets l) (length-offsets l) x.inside) }
 
 pub invariant_of-turned-2 : goal.invariant_of-turned-2
 invariant_of-turned-2 c =
     let y = c.args.operands.right in let l = c.args.operands.left.layout.now in let r = y.layout.now in
-    let both = both_turned c.in_ok-columns.field-0 c.in-Some.columns l r c.in-Some.is c.in_ok-columns.ensures.first c.in_ok-columns.ensures.second in
+    let both = rw c.in-Some.is at c.in_ok-columns.ensures in
     let ends = λ (o : ℕ). o + item_size y.descr.now ≤ length y.block.now in
     record { inside = subst (All ends) (sym both.1.places) (fortran-all ends r.shape (offsets r) (length-offsets r) y.inside) }
 
@@ -49,7 +49,7 @@ pub push-requires-clause-room : goal.push-requires-clause-room
 push-requires-clause-room c =
     let p = c.args.pairing.now in let o = c.args.operands in
     let l = o.left.layout.now in let r = o.right.layout.now in
-    let both = both_turned c.in_ok-columns.field-0 c.in-Some.columns l r c.in-Some.is c.in_ok-columns.ensures.first c.in_ok-columns.ensures.second in
+    let both = rw c.in-Some.is at c.in_ok-columns.ensures in
     let to = size (target_of p) in
     let same : count c.in-Some.columns.first.shape * to ≡ count l.shape * to = ap (λ n. n * to) (ap count both.0.shape_is ∙ count-reverse l.shape) in
     let len : c.in_ok-block.block.1 ≡ count l.shape * to = (λ i. (c.in_ok-block.ensures i).1) ∙ λ i. c.items-2.ensures.value i * (c.size-width.ensures.value ∙ ap size c.target-scalar.ensures) i in
@@ -59,7 +59,7 @@ pub finish-block-requires : goal.finish-block-requires
 finish-block-requires c =
     let p = c.args.pairing.now in let o = c.args.operands in
     let l = o.left.layout.now in let r = o.right.layout.now in
-    let both = both_turned c.in_ok-columns.field-0 c.in-Some.columns l r c.in-Some.is c.in_ok-columns.ensures.first c.in_ok-columns.ensures.second in
+    let both = rw c.in-Some.is at c.in_ok-columns.ensures in
     let to = size (target_of p) in
     let same : count c.in-Some.columns.first.shape * to ≡ count l.shape * to = ap (λ n. n * to) (ap count both.0.shape_is ∙ count-reverse l.shape) in
     let len : c.in_ok-block.block.1 ≡ count l.shape * to = (λ i. (c.in_ok-block.ensures i).1) ∙ λ i. c.items-2.ensures.value i * (c.size-width.ensures.value ∙ ap size c.target-scalar.ensures) i in
@@ -69,7 +69,7 @@ pub gather-requires : goal.gather-requires
 gather-requires c =
     let p = c.args.pairing.now in let o = c.args.operands in
     let l = o.left.layout.now in let r = o.right.layout.now in
-    let both = both_turned c.in_ok-columns.field-0 c.in-Some.columns l r c.in-Some.is c.in_ok-columns.ensures.first c.in_ok-columns.ensures.second in
+    let both = rw c.in-Some.is at c.in_ok-columns.ensures in
     let left = left_of p in let right = right_of p in let to = target_of p in
     let width = c.size-width.result in
     let make = pair_from (pair_made p) (item_size o.left.descr.now) (item_size o.right.descr.now) o.left.block.now o.right.block.now in
@@ -84,7 +84,7 @@ pub returns : goal.returns
 returns c =
     let p = c.args.pairing.now in let o = c.args.operands in
     let l = o.left.layout.now in let r = o.right.layout.now in
-    let both = both_turned c.in_ok-columns.field-0 c.in-Some.columns l r c.in-Some.is c.in_ok-columns.ensures.first c.in_ok-columns.ensures.second in
+    let both = rw c.in-Some.is at c.in_ok-columns.ensures in
     let left = left_of p in let right = right_of p in let to = target_of p in
     let width = c.size-width.result in
     let make = pair_from (pair_made p) (item_size o.left.descr.now) (item_size o.right.descr.now) o.left.block.now o.right.block.now in
