@@ -43,26 +43,6 @@ fn number_pairing(
     }
 }
 
-/// A comparison of numbers of two scalars, by value.
-fn compare_numbers(
-    alloc: Global,
-    comparison: Comparison,
-    left: &Scalar,
-    right: &Scalar,
-    both: Broadcast<'_>,
-) -> Result<Owned, AllocError>
-    requires from { both.left.descr.now ≡ ScalarDescr left.now }
-    requires other { both.right.descr.now ≡ ScalarDescr right.now }
-    requires left { IsNumber left.now }
-    requires right { IsNumber right.now }
-    ensures { IfOk result (AreCompared comparison both.entry) }
-{
-    note_slice(both.left.block.bytes());
-    note_slice(both.right.block.bytes());
-    let pairing = number_pairing(comparison, left, right, both);
-    make_cast(alloc, &pairing, both)
-}
-
 /// A comparison of byte strings. Trailing NULs of items that repeat are looked at once.
 fn compare_texts(
     alloc: Global,
@@ -103,7 +83,7 @@ fn compare_texts(
     made(alloc, &pairing, operands)
 }
 
-/// A comparison of numbers, or of byte strings.
+/// A comparison of numbers, by value, or of byte strings.
 fn compare_scalars(
     alloc: Global,
     comparison: Comparison,
@@ -113,12 +93,18 @@ fn compare_scalars(
     ensures { IfOk result (AreCompared comparison both.entry) }
 {
     match (both.left.descr, both.right.descr) {
-        (Descr::Scalar(Scalar::Bytes(width)), Descr::Scalar(Scalar::Bytes(other_width))) => {
-            compare_texts(alloc, comparison, *width, *other_width, both)
-        }
-        (Descr::Scalar(left), Descr::Scalar(right)) => {
-            compare_numbers(alloc, comparison, left, right, both)
-        }
+        (Descr::Scalar(left), Descr::Scalar(right)) => match (left, right) {
+            (Scalar::Bytes(width), Scalar::Bytes(other_width)) => {
+                compare_texts(alloc, comparison, *width, *other_width, both)
+            }
+            (Scalar::Bytes(_), _) => unreachable!(),
+            _ => {
+                note_slice(both.left.block.bytes());
+                note_slice(both.right.block.bytes());
+                let pairing = number_pairing(comparison, left, right, both);
+                make_cast(alloc, &pairing, both)
+            }
+        },
         _ => unreachable!(),
     }
 }
