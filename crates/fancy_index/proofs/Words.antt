@@ -26,15 +26,15 @@ pub use Rattle.fancy_index.specs.declared.result_axes.Stretch.TheVariants.{After
 pub use Rattle.fancy_index.specs.declared.short_rows.ShortRows.{ShortRows}
 pub use Rattle.fancy_index.specs.inside.Bools.{AreAll, AreBits, LieInBytes, bits, bool_at, bools_in, ranks_from}
 pub use Rattle.fancy_index.specs.inside.Items.{IsOutside, IsWithin}
-pub use Rattle.fancy_index.specs.inside.Kept.{AreWide, CanPush, CanScatter, HavePushed, IsRunOf, end_of, first_offsets, moved_offsets, offsets_from, put_packed, row_at, shifted_offsets, short_offsets}
+pub use Rattle.fancy_index.specs.inside.Kept.{AreWide, CanAppend, CanScatter, HaveAppended, end_of, first_offsets, moved_offsets, offsets_from, put_packed, row_at, shifted_offsets, short_offsets}
 pub use Rattle.fancy_index.specs.inside.Lists.{IsNext, items_left}
-pub use Rattle.fancy_index.specs.inside.Moved.{AreStarts, IsMoved, IsStart, moved_all, moved_offset, shifted, shifted_all}
+pub use Rattle.fancy_index.specs.inside.Moved.{AreStarts, IsMoved, IsRunOf, IsStart, moved_all, moved_offset, shifted, shifted_all}
 pub use Rattle.fancy_index.specs.inside.PartLists.{AddsParts, AreParts, HasPointAt, IsChecked, IsReady, IsReadyAt, IsRest, LeadInto, all_named, first_at, first_offset, is_named, numbers_at, point_of, rest_picks, shown_part, view_if_named}
 pub use Rattle.fancy_index.specs.inside.Places.{stand}
-pub use Rattle.fancy_index.specs.inside.PointLists.{HavePlaces, IsPart, are_named, named_places, place_of, rank_on, ranks_of, true_ranks, tuple}
+pub use Rattle.fancy_index.specs.inside.PointLists.{HavePlaces, IsPart, are_named, rank_on, ranks_of, true_ranks, tuple}
 pub use Rattle.fancy_index.specs.inside.Ranks.{IsAtRun, led}
 pub use Rattle.fancy_index.specs.inside.Sums.{AllCanGrow, AreSums, BeginAt, BeginsAt, CanGrow, CanGrowAlong, HaveAllGrown, HaveGrown, HaveGrownFrom, number_along, offset_along, part_offset, partly, point_number, start_of, starts, stretched_ranks, strides_along}
-pub use Rattle.fancy_index.specs.inside.Words.{ArePlaces, IsNative, IsPlaceOf, LiesIn, word, words_along}
+pub use Rattle.fancy_index.specs.inside.Words.{ArePlaces, IsNative, IsPlaceOf, LiesIn, named_places, place_of, word, words_along}
 pub use Rattle.std.proofs.Math.Bool.{and-true, and_assoc}
 pub use Rattle.std.proofs.Math.ListN.{length-set}
 pub use Rattle.std.proofs.Math.Nat.{div-div-eq-div-mul, div-one, mod-eq_of_lt, mod-lt, mul-le-mul, mul-suc}

@@ -3,8 +3,7 @@
 ghost use Rattle.std.specs.Prelude.{◌≡◌, IfOk, IfErr, Err};
 ghost use Rattle.fancy_index.specs.Clauses.{list_all, is_index, cover, indexed, index_items, items_left, IsChecked};
 
-use crate::index_array::kind;
-use crate::index_parts::Kind;
+use crate::index_parts::{Kind, kind_of};
 use crate::lists::{Left, axes_beside};
 use arrays::Items;
 use elem_descr::{IndexItem, Refusal};
@@ -16,7 +15,7 @@ fn are_indexes(items: &[IndexItem<Items<'_>>]) -> bool
 {
     for item in items {
         if let IndexItem::Array(array) = item
-            && kind(*array) == Kind::NoIndex
+            && kind_of(*array) == Kind::NoIndex
         {
             return false;
         }
@@ -31,7 +30,7 @@ fn cover(left: Left<'_>) -> bool
     let mut left = left;
     while let Some((item, axes)) = left.next() {
         if let IndexItem::Array(array) = item
-            && kind(array) == Kind::Mask
+            && kind_of(array) == Kind::Mask
             && array.layout.shape.as_slice() != axes
         {
             return false;

@@ -5,71 +5,57 @@ ghost use Rattle.fancy_index.specs.Clauses.{CanPush, CanPut, FitAt, HaveFilled, 
 
 use crate::plan_rows::{MovedLayout, PlanAxes, Shifted, fill_run, moved, moved_run};
 use crate::short_rows::ShortRows;
-use crate::singles::{PackedItems, fill_singles, push_singles, scatter_singles};
+use crate::singles::{PackedItems, Source, fill_singles, push_singles, scatter_singles};
 use arrays::{copy_run, packed_run, push_run};
 use raw_block::{BlockBuilder, RawBlock};
 use shape_strides::{Runs, Walk};
 
-/// Appends the items, of `width` bytes, of a shifted layout, run by run.
-fn push_moved(
-    items: BlockBuilder,
-    block: &RawBlock,
-    source: MovedLayout<'_>,
-    width: usize,
-) -> BlockBuilder
-    requires { CanPush (moved_offsets source) width block.now items }
-    ensures { HavePushed (moved_offsets source.entry) width block.now items result }
+/// Appends the items of a shifted layout, run by run.
+fn push_moved(items: BlockBuilder, source: Source<'_>, places: MovedLayout<'_>) -> BlockBuilder
+    requires { CanPush (moved_offsets places) source items }
+    ensures { HavePushed (moved_offsets places.entry) source.entry items result }
 {
+    let Source { block, width } = source;
     let mut items = items;
-    if let Some(run) = source.as_run() {
+    if let Some(run) = places.as_run() {
         push_run(&mut items, block, run, width);
         return items;
     }
-    for run in Runs::new(source.layout) {
-        let from = moved_run(run, source.layout.offset, source.start);
+    for run in Runs::new(places.layout) {
+        let from = moved_run(run, places.layout.offset, places.start);
         push_run(&mut items, block, from, width);
     }
     items
 }
 
 /// Appends the items of the inner axes, once for each shift. One item, or adjacent ones, need no walk.
-fn push_shifted(
-    items: BlockBuilder,
-    block: &RawBlock,
-    rows: Shifted<'_>,
-    width: usize,
-) -> BlockBuilder
-    requires { CanPush (shifted_offsets rows) width block.now items }
-    ensures { HavePushed (shifted_offsets rows.entry) width block.now items result }
+fn push_shifted(items: BlockBuilder, source: Source<'_>, rows: Shifted<'_>) -> BlockBuilder
+    requires { CanPush (shifted_offsets rows) source items }
+    ensures { HavePushed (shifted_offsets rows.entry) source.entry items result }
 {
-    if let Some(bytes) = rows.row_bytes(width) {
-        return push_singles(items, block, rows, bytes);
+    if let Some(width) = rows.row_bytes(source.width) {
+        return push_singles(items, Source { width, ..source }, rows);
     }
     let layout = rows.inner;
     let mut items = items;
     for shift in rows.shifts {
         let start = moved(layout.offset, rows.place, *shift as usize);
-        items = push_moved(items, block, MovedLayout { layout, start }, width);
+        items = push_moved(items, source, MovedLayout { layout, start });
     }
     items
 }
 
 /// Appends all items of the axes.
-pub(crate) fn push_all(
-    items: BlockBuilder,
-    block: &RawBlock,
-    axes: &PlanAxes,
-    width: usize,
-) -> BlockBuilder
-    requires { CanPush (offsets_from axes.now) width block.now items }
-    ensures { HavePushed (offsets_from axes.now) width block.now items result }
+pub(crate) fn push_all(items: BlockBuilder, source: Source<'_>, axes: &PlanAxes) -> BlockBuilder
+    requires { CanPush (offsets_from axes.now) source items }
+    ensures { HavePushed (offsets_from axes.now) source.entry items result }
 {
-    if let Some(rows) = ShortRows::of(axes, width) {
-        return rows.push(items, block, width);
+    if let Some(rows) = ShortRows::of(axes, source.width) {
+        return rows.push(items, source);
     }
     let mut items = items;
     for place in Walk::new(&axes.outer) {
-        items = push_shifted(items, block, axes.rows(place), width);
+        items = push_shifted(items, source, axes.rows(place));
     }
     items
 }
@@ -90,9 +76,9 @@ fn scatter_moved(block: &mut RawBlock, target: MovedLayout<'_>, source: PackedIt
     let mut at = at;
     for run in Runs::new(target.layout) {
         let to = moved_run(run, target.layout.offset, target.start);
-        let from = packed_run(at, width, run.count, len);
+        let from = packed_run(at, width, to.count, len);
         copy_run(block, to, items, from, width);
-        at += run.count * width;
+        at += to.count * width;
     }
     at
 }

@@ -1,6 +1,6 @@
 //! The parts of an index list.
 ghost use Rattle.std.specs.Prelude.{All, IfErr, IfOk, OnOk, false, length, map, true, ◌≡◌, ◌≤◌};
-ghost use Rattle.fancy_index.specs.Clauses.{are_within, covers, is_index, is_within, item_axes, kind_of, Between, parts, parts_of, wholes, index_item_of, has_step, is_ellipsis, max_items, IsOutside, IsWithin, items_left, AddsParts, AreParts, IsChecked, all_named, shown_part};
+ghost use Rattle.fancy_index.specs.Clauses.{are_within, covers, is_index, is_within, item_axes, Between, parts, parts_of, wholes, index_item_of, has_step, is_ellipsis, max_items, IsOutside, IsWithin, items_left, AddsParts, AreParts, IsChecked, all_named, index_array_of, kind, shown_part};
 
 use crate::lists::Left;
 use crate::points::{PointList, Ranks, array_points, integer_point};
@@ -98,7 +98,7 @@ pub(crate) fn check_numbers(alloc: Global, parts: &[IndexPart<'_>]) -> Result<()
         if let IndexPart::Points(points) = part
             && let Ranks::Unread(named) = &points.ranks
         {
-            places(alloc, named.array, named.n)?;
+            places(alloc, *named)?;
         }
     }
     Ok(())
@@ -106,7 +106,7 @@ pub(crate) fn check_numbers(alloc: Global, parts: &[IndexPart<'_>]) -> Result<()
 
 /// The kinds of index arrays.
 #[derive(Clone, Copy, Debug, PartialEq, Eq)]
-pub enum Kind {
+pub(crate) enum Kind {
     /// Numbers along an axis.
     Integers,
     /// A mask: the indexes at which it is true, along as many axes as it has.
@@ -115,11 +115,11 @@ pub enum Kind {
     NoIndex,
 }
 
-/// The kind of index that an array of this type, with these lengths, is.
-pub fn kind_of(descr: &Descr, lengths: &[usize]) -> Kind
-    ensures { result ≡ kind_of descr.now lengths.now }
+/// The kind of index that an array is.
+pub(crate) fn kind_of(array: Items<'_>) -> Kind
+    ensures { result ≡ kind (index_array_of array.entry) }
 {
-    match (descr, lengths) {
+    match (array.descr, array.layout.shape.as_slice()) {
         (Descr::Scalar(Scalar::Byte { .. }), _) => Kind::Integers,
         (Descr::Scalar(Scalar::Int { .. }), _) => Kind::Integers,
         (Descr::Scalar(Scalar::Bool), [_, ..]) => Kind::Mask,

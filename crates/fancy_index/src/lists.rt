@@ -4,8 +4,7 @@ ghost use Rattle.fancy_index.specs.IndexArrays.{item_axes, array_axes_width};
 ghost use Rattle.fancy_index.specs.Sources.{index_item_of, index_items};
 ghost use Rattle.fancy_index.specs.inside.Items.{axes_taken};
 
-use crate::index_array::kind;
-use crate::index_parts::Kind;
+use crate::index_parts::{Kind, kind_of};
 use arrays::Items;
 use elem_descr::IndexItem;
 
@@ -23,7 +22,7 @@ fn axes_of(item: IndexItem<Items<'_>>) -> usize
 {
     match item {
         IndexItem::Ellipsis | IndexItem::NewAxis => 0,
-        IndexItem::Array(array) if kind(array) == Kind::Mask => array.layout.shape.rank(),
+        IndexItem::Array(array) if kind_of(array) == Kind::Mask => array.layout.shape.rank(),
         _ => 1,
     }
 }

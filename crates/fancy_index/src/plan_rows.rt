@@ -2,7 +2,7 @@
 ghost use Rattle.fancy_index.specs.Plans.{put_each};
 ghost use Rattle.std.specs.Prelude.{All, IsTrue, [], get_or, length, map, ℕ, ◌*◌, ◌+◌, ◌<◌, ◌∷◌, ◌≡◌, ◌≤◌};
 ghost use Rattle.fancy_index.specs.Words.{EachWithin, LieWithin, max_bytes, max_items, offsets, run_offsets};
-ghost use Rattle.fancy_index.specs.inside.Moved.{AllStart, AreStarts, IsMoved, moved_offset};
+ghost use Rattle.fancy_index.specs.inside.Moved.{AllStart, AreStarts, IsMoved, IsRunOf, moved_offset};
 
 use arrays::strided;
 use raw_block::RawBlock;
@@ -150,7 +150,7 @@ impl PlanAxes {
 
 impl<'a> Shifted<'a> {
     ghost use Rattle.std.specs.Prelude.{◌+◌, length, map, slice_range, IsTrue, IfSome};
-    ghost use Rattle.fancy_index.specs.inside.Kept.{AreWide, first_offsets, shifted_offsets, IsRunOf};
+    ghost use Rattle.fancy_index.specs.inside.Kept.{AreWide, first_offsets, shifted_offsets};
 
     /// Whether the inner axes have one item.
     pub(crate) fn is_single(self) -> bool
@@ -216,11 +216,7 @@ pub(crate) fn moved_run(run: Run, base: usize, start: usize) -> Run
     requires some { 1 ≤ run.count }
     requires lies { LieWithin (run.count ∷ []) (run.step ∷ []) run.offset max_bytes 1 }
     requires moved { All (IsMoved base start) (run_offsets run) }
-    ensures count { result.count ≡ run.count }
-    ensures offsets { run_offsets result ≡ map (moved_offset base start) (run_offsets run) }
-    ensures within { (len width : ℕ)
-        → All (λ offset. moved_offset base start offset + width ≤ len) (run_offsets run)
-        → EachWithin len result.offset result.step width result.count }
+    ensures { IsRunOf (map (moved_offset base start) (run_offsets run)) result }
 {
     Run {
         offset: moved(base, start, run.offset),
@@ -231,7 +227,7 @@ pub(crate) fn moved_run(run: Run, base: usize, start: usize) -> Run
 
 impl<'a> MovedLayout<'a> {
     ghost use Rattle.std.specs.Prelude.{IfSome};
-    ghost use Rattle.fancy_index.specs.inside.Kept.{moved_offsets, IsRunOf};
+    ghost use Rattle.fancy_index.specs.inside.Kept.{moved_offsets};
 
     /// All items as a single run, if there are any and they are one.
     pub(crate) fn as_run(self) -> Option<Run>

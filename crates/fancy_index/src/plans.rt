@@ -4,7 +4,7 @@ ghost use Rattle.fancy_index.specs.Clauses.{OutOfMemory, TooLarge, item_from, it
 
 use crate::gather_scatter::{fill, push_all, scatter};
 use crate::plan_rows::{PlanAxes, moved};
-use crate::singles::PackedItems;
+use crate::singles::{PackedItems, Source};
 use arrays::{Owned, gather};
 use elem_descr::{Descr, MemoryOrder, Refusal};
 use raw_block::{BlockBuilder, RawBlock};
@@ -134,7 +134,7 @@ impl Plan {
         let bytes = self.shape.items().saturating_mul(width);
         let items = BlockBuilder::try_new(alloc, bytes)?;
         let _filled = items.filled();
-        let items = push_all(items, block, self.axes(), width);
+        let items = push_all(items, Source { block, width }, self.axes());
         Ok(items.finish())
     }
 

@@ -3,10 +3,9 @@
 ghost use Rattle.std.specs.Prelude.{All, IfErr, IfOk, [], length, map, true, ◌∷◌, ◌≡◌, ◌≢◌, ◌≤◌};
 ghost use Rattle.fancy_index.specs.Clauses.{covers, is_within, item_axes, points_shape, parts_of, Gives, is_place, max_items, Integers, Mask, NoIndex, IsOutside, IsWithin, array_item, kind_in, shown_part, IsPart, are_named, place_of, ranks_of, true_ranks};
 
-use crate::index_array::{Named, kind};
-use crate::index_parts::{IndexPart, Kind};
+use crate::index_parts::{IndexPart, Kind, kind_of};
 use crate::masks::true_ranks;
-use crate::positions::places;
+use crate::positions::{Named, places};
 use arrays::Items;
 use broadcasting::common_of_two;
 use elem_descr::Refusal;
@@ -40,7 +39,7 @@ impl Ranks<'_> {
     {
         match self {
             Ranks::Held(ranks) => Ok(mem::replace(ranks, Vec::new(alloc))),
-            Ranks::Unread(named) => places(alloc, named.array, named.n),
+            Ranks::Unread(named) => places(alloc, *named),
         }
     }
 }
@@ -104,7 +103,7 @@ pub(crate) fn array_points<'a>(
         IfOk result (λ p. IsPart axes.now (is_within axes.now item) p (parts_of axes.now item)) }
     ensures err { IfErr result (IsOutside (is_within axes.now (array_item array.entry))) }
 {
-    match kind(array) {
+    match kind_of(array) {
         Kind::Mask => {
             let ranks = true_ranks(alloc, array)?;
             Ok(PointList::try_new(alloc, &[ranks.len()], axes, Ranks::Held(ranks))?)

@@ -3,8 +3,7 @@ ghost use Rattle.std.specs.Prelude.{◌≡◌, ◌≤◌, ◌<◌, ℤ, List, le
 ghost use Rattle.fancy_index.specs.Words.{Gives, count, max_items};
 ghost use Rattle.fancy_index.specs.declared.index_parts.Kind.TheVariants.{Integers};
 ghost use Rattle.fancy_index.specs.inside.Items.{kind_in, numbers_in};
-ghost use Rattle.fancy_index.specs.inside.PointLists.{named_places};
-ghost use Rattle.fancy_index.specs.inside.Words.{word, words_along, AreWords, IsNative, LiesIn, IsPlaceOf, ArePlaces};
+ghost use Rattle.fancy_index.specs.inside.Words.{named_places, word, words_along, AreWords, IsNative, LiesIn, IsPlaceOf, ArePlaces};
 
 use arrays::Items;
 use byteorder::{BigEndian, ByteOrder, LittleEndian};
@@ -12,6 +11,15 @@ use elem_descr::{Descr, Order, Refusal, Scalar};
 use raw_block::{RawBlock, RunI32, RunI64, array_at};
 use shape_strides::{Run, Runs};
 use std::alloc::Global;
+
+/// An array whose numbers are indexes of an axis of `n` items.
+#[derive(Clone, Copy, Drop)]
+pub(crate) struct Named<'a> {
+    pub array: Items<'a>,
+    pub n: usize,
+    pub ghost small: { n ≤ max_items },
+    pub ghost kind: { kind_in array ≡ Integers },
+}
 
 /// The form in which an integer is stored.
 #[derive(Clone, Copy)]
@@ -22,11 +30,10 @@ pub(crate) struct Form {
 }
 
 /// The form of the integers of an array.
-fn form_of(array: Items<'_>) -> Form
-    requires { kind_in array ≡ Integers }
-    ensures { AreWords result array.entry.descr.now }
+fn form_of(named: Named<'_>) -> Form
+    ensures { AreWords result named.entry.array.descr.now }
 {
-    match array.descr {
+    match named.array.descr {
         Descr::Scalar(Scalar::Byte { signed }) => Form {
             signed: *signed,
             order: Order::Little,
@@ -188,16 +195,16 @@ fn put_run<const N: usize>(
     }
 }
 
-/// Writes the indexes that the integers of an array, of `N` bytes, stand for on an axis of `n`
-/// items, and returns whether all are in range.
-fn put_all<const N: usize>(places: &mut [u32], array: Items<'_>, form: Form, n: usize) -> bool
+/// Writes the indexes that the integers of an array, of `N` bytes, stand for on their axis, and
+/// returns whether all are in range.
+fn put_all<const N: usize>(places: &mut [u32], named: Named<'_>, form: Form) -> bool
     requires few { (1 ≤ N) × (N ≤ 8) }
     requires width { form.width ≡ N }
-    requires small { n ≤ max_items }
-    requires words { AreWords form array.descr.now }
-    requires many { length places.old ≡ count array.layout.now.shape }
-    ensures { ArePlaces n (numbers_in array.entry) result places.new }
+    requires words { AreWords form named.array.descr.now }
+    requires many { length places.old ≡ count named.array.layout.now.shape }
+    ensures { ArePlaces named.entry.n (numbers_in named.entry.array) result places.new }
 {
+    let Named { array, n } = named;
     let _items = array.layout.shape.items();
     if let Some(run) = array.layout.as_run() {
         return put_run::<N>(places, array.block, form, run, n);
@@ -213,21 +220,20 @@ fn put_all<const N: usize>(places: &mut [u32], array: Items<'_>, form: Form, n: 
     are
 }
 
-/// The indexes that the integers of an array stand for on an axis of `n` items, or the refusal of
-/// one that is out of range.
-pub(crate) fn places(alloc: Global, array: Items<'_>, n: usize) -> Result<Vec<u32>, Refusal>
-    requires small { n ≤ max_items }
-    requires kind { kind_in array ≡ Integers }
-    ensures { Gives (λ v. v.items) result (named_places n (numbers_in array.entry)) }
+/// The indexes that the integers of an array stand for on their axis, or the refusal of one that is
+/// out of range.
+pub(crate) fn places(alloc: Global, named: Named<'_>) -> Result<Vec<u32>, Refusal>
+    ensures { let there = named_places named.entry.n (numbers_in named.entry.array) in
+        Gives (λ v. v.items) result there }
 {
-    let form = form_of(array);
-    let mut places = vec![in alloc; 0u32; array.layout.shape.items()]?;
+    let form = form_of(named);
+    let mut places = vec![in alloc; 0u32; named.array.layout.shape.items()]?;
     let slots = places.as_mut_slice();
     let are = match form.width {
-        1 => put_all::<1>(slots, array, form, n),
-        2 => put_all::<2>(slots, array, form, n),
-        4 => put_all::<4>(slots, array, form, n),
-        _ => put_all::<8>(slots, array, form, n),
+        1 => put_all::<1>(slots, named, form),
+        2 => put_all::<2>(slots, named, form),
+        4 => put_all::<4>(slots, named, form),
+        _ => put_all::<8>(slots, named, form),
     };
     if !are {
         return Err(Refusal::IndexOutOfRange);

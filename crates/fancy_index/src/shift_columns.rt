@@ -1,6 +1,6 @@
 //! The offset of the first item with each point: how far each array moves it from the item with all
 //! points at 0.
-ghost use Rattle.std.specs.Prelude.{All, IfOk, OnOk, drop, get_or, length, map, pos, take, true, ℕ, ◌+◌, ◌<◌, ◌≡◌, ◌≤◌};
+ghost use Rattle.std.specs.Prelude.{All, IfOk, OnOk, get_or, length, map, pos, true, ℕ, ◌+◌, ◌<◌, ◌≡◌, ◌≤◌};
 ghost use Rattle.fancy_index.specs.Clauses.{IsShape, address, can_stretch, count, indexes, max_bytes, offsets, IsWithin, IsMoved, AreParts, IsReady, LeadInto, all_named, first_offset, is_named, AllCanGrow, AreSoMany, CanGrowAlong, IsOrigin, BeginAt, BeginsAt, CanAdd, CanGrow, HaveAdded, HaveAllGrown, HaveGrown, HaveGrownFrom, number_along, number_through, point_number, start_of, starts, stretched_ranks, strides_along};
 
 use crate::index_parts::IndexPart;
@@ -30,14 +30,6 @@ fn axes_of(part: &IndexPart<'_>) -> usize
     }
 }
 
-/// The strides of some axes, starting with one of them.
-fn strides_from(strides: &[isize], axis: usize, axes: usize) -> &[isize]
-    requires { axis + axes ≤ length strides.now }
-    ensures { result.now ≡ take axes (drop axis strides.now) }
-{
-    &strides[axis..axis + axes]
-}
-
 /// The items along some axes, starting with one of them. On all other axes the index is that of the
 /// start.
 pub(crate) fn along(
@@ -56,7 +48,7 @@ pub(crate) fn along(
     let _lengths = layout.shape.as_slice();
     let strides = layout.strides.as_slice();
     let shape = Shape::from_lengths(alloc, axes)?;
-    let strides = Strides::from_slice(alloc, strides_from(strides, axis, axes.len()))?;
+    let strides = Strides::from_slice(alloc, &strides[axis..axis + axes.len()])?;
     Ok(Layout {
         shape,
         strides,
@@ -85,13 +77,8 @@ fn add_part(
 {
     match part {
         IndexPart::Points(points) => {
-            let along = along(
-                alloc,
-                origin.layout,
-                axis,
-                points.axes.as_slice(),
-                origin.start,
-            )?;
+            let axes = points.axes.as_slice();
+            let along = along(alloc, origin.layout, axis, axes, origin.start)?;
             let mut offsets = points.ranks.take(alloc)?;
             lead_through(&along, offsets.as_mut_slice());
             add_points(alloc, origin, points.lengths.as_slice(), offsets, shifts)?;

@@ -4,7 +4,7 @@ ghost use Rattle.std.specs.Prelude.{◌≡◌, ◌≤◌};
 ghost use Rattle.fancy_index.specs.Words.{BeginsWithin, count, max_items, offsets, run_offsets};
 
 use crate::plan_rows::{PlanAxes, Shifted, are_adjacent};
-use crate::singles::{PackedItems, fill_each, push_each, scatter_each};
+use crate::singles::{PackedItems, Source, fill_each, push_each, scatter_each};
 use raw_block::{BlockBuilder, RawBlock};
 use shape_strides::Run;
 
@@ -59,31 +59,30 @@ impl<'a> ShortRows<'a> {
         }
     }
 
-    /// Appends all items, of `width` bytes. If the compiler knows the width, each is a single load
-    /// and store.
+    /// Appends all items. If the compiler knows the width, each is a single load and store.
     #[inline(always)]
-    fn push_rows(self, items: BlockBuilder, block: &RawBlock, width: usize) -> BlockBuilder
-        requires { CanPush (short_offsets self) width block.now items }
-        ensures { HavePushed (short_offsets self.entry) width block.now items result }
+    fn push_rows(self, items: BlockBuilder, source: Source<'_>) -> BlockBuilder
+        requires { CanPush (short_offsets self) source items }
+        ensures { HavePushed (short_offsets self.entry) source.entry items result }
     {
         let mut items = items;
         for k in 0..self.places.count {
-            items = push_each(items, block, self.row(k), width);
+            items = push_each(items, source, self.row(k));
         }
         items
     }
 
-    /// Appends all items, of `width` bytes.
-    pub(crate) fn push(self, items: BlockBuilder, block: &RawBlock, width: usize) -> BlockBuilder
-        requires { CanPush (short_offsets self) width block.now items }
-        ensures { HavePushed (short_offsets self.entry) width block.now items result }
+    /// Appends all items.
+    pub(crate) fn push(self, items: BlockBuilder, source: Source<'_>) -> BlockBuilder
+        requires { CanPush (short_offsets self) source items }
+        ensures { HavePushed (short_offsets self.entry) source.entry items result }
     {
-        match width {
-            1 => self.push_rows(items, block, 1),
-            2 => self.push_rows(items, block, 2),
-            4 => self.push_rows(items, block, 4),
-            8 => self.push_rows(items, block, 8),
-            _ => self.push_rows(items, block, width),
+        match source.width {
+            1 => self.push_rows(items, Source { width: 1, ..source }),
+            2 => self.push_rows(items, Source { width: 2, ..source }),
+            4 => self.push_rows(items, Source { width: 4, ..source }),
+            8 => self.push_rows(items, Source { width: 8, ..source }),
+            _ => self.push_rows(items, source),
         }
     }
 

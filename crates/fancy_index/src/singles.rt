@@ -43,18 +43,21 @@ fn put_item(block: &mut RawBlock, to: usize, bytes: &[u8], at: usize, width: usi
     }
 }
 
-/// Appends the `width` bytes at each shifted place. If the compiler knows the width, each is a
-/// single load and store.
+/// Items of `width` bytes in a block.
+#[derive(Clone, Copy)]
+pub(crate) struct Source<'a> {
+    pub block: &'a RawBlock,
+    pub width: usize,
+}
+
+/// Appends the items at the shifted places. If the compiler knows the width, each is a single load
+/// and store.
 #[inline(always)]
-pub(crate) fn push_each(
-    items: BlockBuilder,
-    block: &RawBlock,
-    rows: Shifted<'_>,
-    width: usize,
-) -> BlockBuilder
-    requires { CanPush (first_offsets rows) width block.now items }
-    ensures { HavePushed (first_offsets rows.entry) width block.now items result }
+pub(crate) fn push_each(items: BlockBuilder, source: Source<'_>, rows: Shifted<'_>) -> BlockBuilder
+    requires { CanPush (first_offsets rows) source items }
+    ensures { HavePushed (first_offsets rows.entry) source.entry items result }
 {
+    let Source { block, width } = source;
     let base = rows.inner.offset;
     let bytes = block.bytes();
     let mut items = items;
@@ -67,47 +70,42 @@ pub(crate) fn push_each(
 
 /// Appends the items at the shifted places: as one range if they are adjacent, and otherwise with a
 /// loop of its own for each common width.
-fn push_stretch(
-    items: BlockBuilder,
-    block: &RawBlock,
-    rows: Shifted<'_>,
-    width: usize,
-) -> BlockBuilder
+fn push_stretch(items: BlockBuilder, source: Source<'_>, rows: Shifted<'_>) -> BlockBuilder
     requires some { 1 ≤ length rows.shifts.now }
     requires few { length rows.shifts.now ≤ 128 }
-    requires can { CanPush (first_offsets rows) width block.now items }
-    ensures { HavePushed (first_offsets rows.entry) width block.now items result }
+    requires can { CanPush (first_offsets rows) source items }
+    ensures { HavePushed (first_offsets rows.entry) source.entry items result }
 {
+    let Source { block, width } = source;
     match (rows.as_run(width), width) {
         (Some(run), _) => {
             let mut items = items;
             push_run(&mut items, block, run, width);
             items
         }
-        (_, 1) => push_each(items, block, rows, 1),
-        (_, 2) => push_each(items, block, rows, 2),
-        (_, 4) => push_each(items, block, rows, 4),
-        (_, 8) => push_each(items, block, rows, 8),
-        (_, 16) => push_each(items, block, rows, 16),
-        _ => push_each(items, block, rows, width),
+        (_, 1) => push_each(items, Source { block, width: 1 }, rows),
+        (_, 2) => push_each(items, Source { block, width: 2 }, rows),
+        (_, 4) => push_each(items, Source { block, width: 4 }, rows),
+        (_, 8) => push_each(items, Source { block, width: 8 }, rows),
+        (_, 16) => push_each(items, Source { block, width: 16 }, rows),
+        _ => push_each(items, source, rows),
     }
 }
 
 /// Appends the items at the shifted places, range by range.
 pub(crate) fn push_singles(
     items: BlockBuilder,
-    block: &RawBlock,
+    source: Source<'_>,
     rows: Shifted<'_>,
-    width: usize,
 ) -> BlockBuilder
-    requires { CanPush (first_offsets rows) width block.now items }
-    ensures { HavePushed (first_offsets rows.entry) width block.now items result }
+    requires { CanPush (first_offsets rows) source items }
+    ensures { HavePushed (first_offsets rows.entry) source.entry items result }
 {
     let mut items = items;
     let mut from = 0;
     while from < rows.shifts.len() {
         let end = rows.shifts.len().min(from + 128);
-        items = push_stretch(items, block, rows.part(from, end), width);
+        items = push_stretch(items, source, rows.part(from, end));
         from = end;
     }
     items

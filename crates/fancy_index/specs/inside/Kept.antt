@@ -1,11 +1,12 @@
 -- The offsets of the items of a plan.
 use Rattle.std.specs.Prelude.{◌≡◌, ◌+◌, ◌++◌, ◌*◌, ◌<◌, ◌≤◌, ℕ, List, map, length, get_or, All}
-use Rattle.fancy_index.specs.Words.{assigned, joined_at, row_offsets, count, offsets, max_items, EachWithin, Run, run_offsets}
+use Rattle.fancy_index.specs.Words.{assigned, joined_at, row_offsets, count, offsets, max_items, run_offsets}
 use Rattle.fancy_index.specs.declared.plan_rows.MovedLayout.{MovedLayout}
 use Rattle.fancy_index.specs.declared.plan_rows.PlanAxes.{PlanAxes}
 use Rattle.fancy_index.specs.declared.plan_rows.Shifted.{Shifted}
 use Rattle.fancy_index.specs.declared.short_rows.ShortRows.{ShortRows}
 use Rattle.fancy_index.specs.declared.singles.PackedItems.{PackedItems}
+use Rattle.fancy_index.specs.declared.singles.Source.{Source}
 use Rattle.fancy_index.specs.Plans.{put_each}
 use Rattle.fancy_index.specs.inside.Moved.{moved_offset, shifted_all, moved_all, laid_offsets}
 
@@ -46,13 +47,20 @@ FitAt offsets width block = All (λ offset. offset + width ≤ length block) off
 
 -- The items of `width` bytes at these offsets of a block can be appended, or are appended, to the bytes in `items`, which
 -- are followed by room for some more.
-pub record CanPush (offsets : List ℕ) (width : ℕ) (block : List ℕ) (items : List ℕ × ℕ) : Type 0 where
+pub record CanAppend (offsets : List ℕ) (width : ℕ) (block : List ℕ) (items : List ℕ × ℕ) : Type 0 where
   pub inside : FitAt offsets width block
   pub room : length offsets * width ≤ items.1
 
-pub record HavePushed (offsets : List ℕ) (width : ℕ) (block : List ℕ) (old new : List ℕ × ℕ) : Type 0 where
+pub record HaveAppended (offsets : List ℕ) (width : ℕ) (block : List ℕ) (old new : List ℕ × ℕ) : Type 0 where
   pub bytes : new.0 ≡ old.0 ++ joined_at offsets width block
   pub left : length offsets * width + new.1 ≡ old.1
+
+-- the same for the items of a source
+abbrev pub CanPush : List ℕ → Source → List ℕ × ℕ → Type 0
+CanPush offsets source items = CanAppend offsets source.width source.block.now items
+
+abbrev pub HavePushed : List ℕ → Source → List ℕ × ℕ → List ℕ × ℕ → Type 0
+HavePushed offsets source old new = HaveAppended offsets source.width source.block.now old new
 
 -- Items that are adjacent from `at` on can be copied to these offsets of a block.
 pub record CanScatter (offsets : List ℕ) (at width : ℕ) (items block : List ℕ) : Type 0 where
@@ -76,12 +84,6 @@ pub record HavePut (offsets : List ℕ) (source : PackedItems) (old new : List �
 pub record HaveFilled (offsets item old new : List ℕ) : Type 0 where
   pub written : new ≡ put_each offsets item old
   pub len : length new ≡ length old
-
--- a run whose items have these offsets
-pub record IsRunOf (offsets : List ℕ) (run : Run) : Type 0 where
-  pub same : run_offsets run ≡ offsets
-  pub count : run.count ≡ length offsets
-  pub within : (len width : ℕ) → All (λ offset. offset + width ≤ len) offsets → EachWithin len run.offset run.step width run.count
 
 -- The inner items are adjacent, so with each shift they are one item of `bytes` bytes.
 pub record AreWide (rows : Shifted) (width bytes : ℕ) : Type 0 where

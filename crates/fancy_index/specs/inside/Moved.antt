@@ -1,6 +1,6 @@
 -- The offsets of a plan: those of the inner axes, moved to each place of the outer axes and by each shift.
-use Rattle.std.specs.Prelude.{◌≤◌, ◌<◌, ℕ, ◌+◌, ◌-◌, List, map, All}
-use Rattle.fancy_index.specs.Words.{flat_map, Layout, offsets, max_bytes}
+use Rattle.std.specs.Prelude.{◌≡◌, ◌≤◌, ◌<◌, ℕ, ◌+◌, ◌-◌, List, map, length, All}
+use Rattle.fancy_index.specs.Words.{flat_map, EachWithin, Layout, Run, offsets, max_bytes, run_offsets}
 
 -- the offset that is as far from `start` as `offset` is from `base`
 abbrev pub moved_offset : ℕ → ℕ → ℕ → ℕ
@@ -36,3 +36,9 @@ laid_offsets outer shifts inner = moved_all inner.offset (offsets outer) shifts 
 
 abbrev pub AllStart : Layout → List ℕ → Layout → Type 0
 AllStart outer shifts inner = All (AreStarts inner.offset (offsets inner) shifts) (offsets outer)
+
+-- a run whose items have these offsets
+pub record IsRunOf (offsets : List ℕ) (run : Run) : Type 0 where
+  pub same : run_offsets run ≡ offsets
+  pub count : run.count ≡ length offsets
+  pub within : (len width : ℕ) → All (λ offset. offset + width ≤ len) offsets → EachWithin len run.offset run.step width run.count

@@ -1,19 +1,12 @@
 -- Points as the code stores them: by their ranks along their axes.
-use Rattle.std.specs.Prelude.{◌≡◌, ◌⊎◌, ◌<◌, ℕ, ◌+◌, ◌%◌, Bool, true, if◌then◌else◌, ℤ, pos, List, [], ◌∷◌, map, length, get_or, All, Result, Ok, Err}
-use Rattle.fancy_index.specs.Words.{list_all, int_eq, Refusal, IndexOutOfRange, count, indexes, natural, from_front, is_place}
+use Rattle.std.specs.Prelude.{◌≡◌, ◌⊎◌, ◌<◌, ℕ, ◌+◌, ◌%◌, Bool, true, if◌then◌else◌, ℤ, pos, List, [], ◌∷◌, map, length, get_or, All}
+use Rattle.fancy_index.specs.Words.{list_all, int_eq, count, indexes, is_place}
 use Rattle.fancy_index.specs.declared.points.PointList.{PointList}
 use Rattle.fancy_index.specs.declared.points.Ranks.{Ranks}
 use Rattle.fancy_index.specs.declared.points.Ranks.TheVariants.{Held, Unread}
 use Rattle.fancy_index.specs.inside.Items.{numbers_in}
+use Rattle.fancy_index.specs.inside.Words.{place_of}
 use Rattle.fancy_index.specs.Parts.{Part, Points}
-
--- the place along an axis of n that a number names
-abbrev pub place_of : ℕ → ℤ → ℕ
-place_of n at = natural (from_front n at)
-
--- the places that numbers name, or the refusal if one of them is out of range
-abbrev pub named_places : ℕ → List ℤ → Result (List ℕ) Refusal
-named_places n numbers = if list_all (is_place n) numbers then Ok (map (place_of n) numbers) else Err IndexOutOfRange
 
 -- the rank of a number along an axis of n, which is not empty: its place, if the number is in range
 abbrev pub rank_on : ℕ → ℤ → ℕ

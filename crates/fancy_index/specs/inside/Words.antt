@@ -1,10 +1,9 @@
 -- Integers, read from bytes.
-use Rattle.std.specs.Prelude.{◌≡◌, ◌+◌, ◌≤◌, ◌==◌, ◌||◌, ℕ, Bool, true, IsTrue, ℤ, pos, List, [], ◌∷◌, map, length, All}
+use Rattle.std.specs.Prelude.{◌≡◌, ◌+◌, ◌≤◌, ◌==◌, ◌||◌, ℕ, Bool, true, IsTrue, if◌then◌else◌, ℤ, pos, List, [], ◌∷◌, map, length, All, Result, Ok, Err}
 use Rattle.std.specs.List.{list_all}
-use Rattle.fancy_index.specs.Words.{Descr, Little, integer, number_in, item_size, item_at, LieWithin, max_items, max_bytes, Run, run_offsets, is_place}
+use Rattle.fancy_index.specs.Words.{Refusal, IndexOutOfRange, Descr, Little, integer, number_in, item_size, item_at, LieWithin, max_items, max_bytes, Run, run_offsets, natural, from_front, is_place}
 use Rattle.fancy_index.specs.Sources.{number_from}
 use Rattle.fancy_index.specs.declared.positions.Form.{Form}
-use Rattle.fancy_index.specs.inside.PointLists.{place_of}
 
 -- the integer in the bytes of an item
 abbrev pub word : Form → List ℕ → ℤ
@@ -32,6 +31,14 @@ pub record LiesIn (block : List ℕ) (width : ℕ) (run : Run) : Type 0 where
   pub few : run.count ≤ max_items
   pub limit : LieWithin (run.count ∷ []) (run.step ∷ []) run.offset max_bytes 1
   pub ends : All (λ offset. offset + width ≤ length block) (run_offsets run)
+
+-- the place along an axis of n that a number names
+abbrev pub place_of : ℕ → ℤ → ℕ
+place_of n at = natural (from_front n at)
+
+-- the places that numbers name, or the refusal if one of them is out of range
+abbrev pub named_places : ℕ → List ℤ → Result (List ℕ) Refusal
+named_places n numbers = if list_all (is_place n) numbers then Ok (map (place_of n) numbers) else Err IndexOutOfRange
 
 -- `found` says whether a number names one of n places, and, if so, which
 abbrev pub IsPlaceOf : ℕ → ℤ → Bool × ℕ → Type 0

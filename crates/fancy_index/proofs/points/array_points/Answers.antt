@@ -13,14 +13,14 @@ returns-in_ok-try_new-in-Mask-clause-part c =
     let points = c.in_ok-try_new-in-Mask in
     let ranks = ap ranks_of points.ensures.ranks in
     let same : c.len.result ≡ length (ranks_of points.field-0.ranks) = omega (arith, c.len.ensures, ap length ranks) in
-    part-of_mask (kind a) c.args.axes.now a.shape a.numbers points.field-0 (sym c.kind.ensures ∙ c.in-Mask.is) c.requires.covers (many c.args.array) (points.ensures.lengths ∙ ap (λ n. n ∷ []) same) points.ensures.axes (ap are_named points.ensures.ranks) (ranks ∙ c.in_ok-ranks-in-Mask.ensures)
+    part-of_mask (kind a) c.args.axes.now a.shape a.numbers points.field-0 (sym c.kind_of.ensures ∙ c.in-Mask.is) c.requires.covers (many c.args.array) (points.ensures.lengths ∙ ap (λ n. n ∷ []) same) points.ensures.axes (ap are_named points.ensures.ranks) (ranks ∙ c.in_ok-ranks-in-Mask.ensures)
 
 pub returns-in_ok-try_new-in-Integers-clause-part : goal.returns-in_ok-try_new-in-Integers-clause-part
 returns-in_ok-try_new-in-Integers-clause-part c =
     let a = index_array_of c.args.array in
     let axes = c.args.axes.now in
     let points = c.in_ok-try_new-in-Integers in
-    let is = sym c.kind.ensures ∙ c.in-Integers.is in
+    let is = sym c.kind_of.ensures ∙ c.in-Integers.is in
     let have : HavePlaces (get_or axes 0 0) a.numbers =
     elim c.else-n-eq0.branch [
       | else-n-eq0-via-then-n-eq0+else-items-gt0 w ↦ inr (nil_from_length a.numbers (omega (arith, many c.args.array, w.items.ensures.value, w.if-items-gt0.false)))
@@ -33,7 +33,7 @@ pub returns-then-items-gt0-clause-err : goal.returns-then-items-gt0-clause-err
 returns-then-items-gt0-clause-err c =
     let a = index_array_of c.args.array in
     let axes = c.args.axes.now in
-    let is = sym c.kind.ensures ∙ c.in-Integers.is in
+    let is = sym c.kind_of.ensures ∙ c.in-Integers.is in
     let tested = ap (λ k. are_places k axes a.numbers) is ∙ places_tested axes a.numbers _ (c.requires.axes ∙ ap (λ k. axes_of_kind k a.shape) is) refl in
     let none = none-named (get_or axes 0 0) a.numbers (omega (arith, c.if-n-eq0.true)) (omega (arith, many c.args.array, c.items.ensures.value, c.if-items-gt0.true)) in
     inr (ap (λ t. check t IndexOutOfRange) (tested ∙ none))

@@ -19,13 +19,13 @@ led-is c own is k low =
     ap (λ (s : List ℕ). point_number origin.lengths.now s (written-offsets c) k) is
     ∙ ap (λ (l : List ℕ). get_or l (rank p.lengths.items (broadcast_index p.lengths.items (tuple origin.lengths.now k))) 0) (written c.lead_through.new.ranks read.offsets.items read.offsets.len (omega (arith, size, c.as_mut_slice.ensures.len)))
     ∙ led-number origin.layout.now c.args.axis origin.start origin.lengths.now p c.in_ok-along-in-Points.along _ _ _ (subst (BeginsAt origin.layout.now c.args.axis origin.start) c.in-Points.is c.requires.begins) (subst (IsReady origin.lengths.now) c.in-Points.is c.requires.ready)
-    c.as_slice.ensures (c.as_mut_slice.ensures.value ∙ read.ensures.ranks) made.shape made.strides made.offset c.lead_through.ensures k low
+    c.as_slice-axes.ensures (c.as_mut_slice.ensures.value ∙ read.ensures.ranks) made.shape made.strides made.offset c.lead_through.ensures k low
     ∙ ap (λ (part : IndexPart). part_offset origin.layout.now c.args.axis origin.start origin.lengths.now part k) (sym c.in-Points.is)
 
 pub add_points-requires-clause-can : goal.add_points-requires-clause-can
 add_points-requires-clause-can c = λ k low.
-    subst (IsMoved c.args.origin.start (get_or c.args.shifts.now.items k c.args.origin.start)) (sym (led-is (goal.at.add_points-requires-clause-can c).After-lead_through _ c.as_slice-in-Points.ensures k low)) (c.requires.can k low)
+    subst (IsMoved c.args.origin.start (get_or c.args.shifts.now.items k c.args.origin.start)) (sym (led-is (goal.at.add_points-requires-clause-can c).After-lead_through _ c.as_slice.ensures k low)) (c.requires.can k low)
 
 pub returns-in_ok-add_points-in-Points-clause-ok : goal.returns-in_ok-add_points-in-Points-clause-ok
 returns-in_ok-add_points-in-Points-clause-ok c =
-    regrown c.args.origin.start (count c.args.origin.lengths.now) _ _ c.args.shifts.now.items c.add_points.new.shifts.items (led-is (goal.at.returns-in_ok-add_points-in-Points-clause-ok c).After-lead_through _ c.as_slice-in-Points.ensures) c.in_ok-add_points-in-Points.ensures
+    regrown c.args.origin.start (count c.args.origin.lengths.now) _ _ c.args.shifts.now.items c.add_points.new.shifts.items (led-is (goal.at.returns-in_ok-add_points-in-Points-clause-ok c).After-lead_through _ c.as_slice.ensures) c.in_ok-add_points-in-Points.ensures

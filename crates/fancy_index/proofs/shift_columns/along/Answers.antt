@@ -1,4 +1,4 @@
-use Rattle.std.proofs.Common.{◌≡◌, take, drop, length, sym, ap, ◌∙◌, arith}
+use Rattle.std.proofs.Common.{◌≡◌, ◌+◌, ◌-◌, take, drop, length, sym, ap, ◌∙◌, arith}
 use Rattle.fancy_index.proofs.Words.{count, max_bytes, LieWithin-view, strides_along}
 use Rattle.fancy_index.proofs.AlongLaws.{axes-within, axes-made, length-along, along-shows}
 use Rattle.fancy_index.proofs.shift_columns.along.Goals as goal
@@ -9,11 +9,17 @@ from_lengths-requires c =
     let shape = c.as_slice-lengths.ensures in
     axes-made c.args.layout.now c.args.axis c.args.start c.args.axes.now c.requires shape.rank shape.lengths shape.items
 
-pub strides_from-requires : goal.strides_from-requires
-strides_from-requires c = omega (arith, axes-within c.args.layout.now c.args.axis c.args.start c.args.axes.now c.requires, ap length c.as_slice-strides.ensures)
+pub offset_bounds-strides-axis : goal.offset_bounds-strides-axis
+offset_bounds-strides-axis c = record { fits = omega (arith, axes-within c.args.layout.now c.args.axis c.args.start c.args.axes.now c.requires, c.as_slice-lengths.ensures.rank, c.args.layout.now.one_stride_an_axis) }
+
+pub slice_bounds-from_slice-end : goal.slice_bounds-from_slice-end
+slice_bounds-from_slice-end c = omega (arith, axes-within c.args.layout.now c.args.axis c.args.start c.args.axes.now c.requires, ap length c.as_slice-strides.ensures)
 
 strides-is : (c : In_ok-strides) → c.in_ok-strides.strides ≡ strides_along c.args.layout.now c.args.axis c.args.axes.now
-strides-is c = c.in_ok-strides.ensures ∙ c.strides_from.ensures ∙ ap (λ s. take (length c.args.axes.now) (drop c.args.axis s)) c.as_slice-strides.ensures
+strides-is c =
+    let n = length c.args.axes.now in
+    let many : c.args.axis + n - c.args.axis ≡ n = omega arith in
+    c.in_ok-strides.ensures ∙ ap (λ k. take k (drop c.args.axis c.as_slice-strides.result.now)) many ∙ ap (λ s. take n (drop c.args.axis s)) c.as_slice-strides.ensures
 
 pub invariant_of-result : goal.invariant_of-result
 invariant_of-result c =
