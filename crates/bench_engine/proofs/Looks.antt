@@ -1,6 +1,6 @@
 -- Names that are looked up, and questions about their arrays.
-use Rattle.std.proofs.Common.{◌≡◌, ℕ, true, List, [], Ok, refl, sym, ap, Option, Some, None, Err, is_some}
-use Rattle.bench_engine.proofs.Words.{UnknownName, Refusal, Ask, Print, offsets, array_text, items_from, State, find_array, is_bound, Shows, ArrayRef, Array, and-true, refusal, world, may_lack_memory, MayAnswer, IsRefused, MayPrint, question_outcome, print_outcome, accepted_with}
+use Rattle.std.proofs.Common.{◌≡◌, ◌&&◌, ℕ, true, false, List, [], ◌∷◌, Ok, refl, sym, ap, Option, Some, None, Err, is_some}
+use Rattle.bench_engine.proofs.Words.{list_all, UnknownName, Refusal, Ask, Print, offsets, array_text, items_from, State, find_array, is_bound, Shows, ArrayRef, Array, and-true, refusal, world, may_lack_memory, MayAnswer, IsRefused, MayPrint, question_outcome, print_outcome, accepted_with}
 use Rattle.bench_engine.specs.Words.{Finds}
 use Rattle.script_lang.specs.declared.command.Question.TheVariants as question
 use Rattle.bench_engine.proofs.Steps.{spare, carried}
@@ -9,6 +9,13 @@ use Rattle.bench_engine.proofs.Steps.{spare, carried}
 pub not_found : (s : State) (found : Option Array) → Finds s found None → found ≡ None
 not_found s None h = refl
 not_found s (Some array) h = absurd h
+
+nothing : (found : Option Array) → (is_some found && true) ≡ false → found ≡ None
+nothing None none = refl
+nothing (Some array) none = cc
+
+pub unbound : (s : State) (name : List ℕ) → list_all (is_bound s) (name ∷ []) ≡ false → find_array s.names name ≡ None
+unbound s name none = nothing (find_array s.names name) none
 
 pub bound : (s : State) (name : List ℕ) (array : Array) → find_array s.names name ≡ Some array → is_bound s name ≡ true
 bound s name array is = ap is_some is

@@ -42,7 +42,7 @@ pub use Rattle.name_store.specs.ArrayLaws.{found-array as found}
 pub use Rattle.script_lang.specs.declared.command.Value.TheVariants.{Load as LoadValue}
 pub use Rattle.script_lang.specs.declared.command.Viewing.TheVariants.{Field}
 pub use Rattle.script_lang.specs.declared.literal.ScalarLiteral.TheVariants.{Bytes, Integer}
-pub use Rattle.std.proofs.Math.Bool.{and-false, and-true}
+pub use Rattle.std.proofs.Math.Bool.{and-true}
 pub use Rattle.std.proofs.Math.Dec.{eqb, eqb-suc-zero}
 pub use Rattle.std.proofs.Math.Nat.{div-lt_iff_lt-mul, div-mul-le_self, lt-div-mul-add, mul-div_cancel_left, mul-le-mul_left}
 pub use Rattle.std.proofs.Math.Seq.{drop-append_seam, take-append_seam}

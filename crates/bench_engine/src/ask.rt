@@ -1,26 +1,15 @@
 //! `print X`, `info X`, `format X`, `names`, `shares X Y`: questions, which change nothing.
-ghost use Rattle.std.specs.Prelude.{◌≡◌, ◌++◌, codes, OnOk, true, ◌&&◌};
-ghost use Rattle.bench_engine.specs.Clauses.{is_bound, offsets, CarriesOut, print_outcome, info_outcome, format_outcome, accepted_with, shares_outcome, info_text, order_text, yes_or_no, names_text};
+ghost use Rattle.std.specs.Prelude.{◌≡◌, OnOk};
+ghost use Rattle.bench_engine.specs.Clauses.{list_all, is_bound, offsets, bound_in_question, question_outcome, CarriesOut, info_text, order_text, yes_or_no, names_text};
 
+use crate::index_list::named_array;
 use crate::replies::set_array_words;
 use crate::reply_text::ReplyText;
 use elem_descr::{Descr, Name, Refusal, format_write};
 use name_store::Bench;
+use script_lang::Question;
 use shape_strides::Layout;
 use std::alloc::AllocError;
-
-/// Prints the array of a name.
-pub fn print(bench: &Bench, name: &Name, out: &mut ReplyText) -> Result<(), Refusal>
-    ensures { CarriesOut (is_bound bench.now.state name.now)
-        (λ choice. print_outcome bench.now.state name.now)
-        bench.now.state bench.now.state out.new result }
-{
-    let Some(array) = bench.get(name) else {
-        return Err(Refusal::UnknownName);
-    };
-    out.print(array.block.bytes(), array.layout, array.descr)?;
-    Ok(())
-}
 
 /// The memory orders in which items of `item` bytes are contiguous.
 fn order_text(layout: &Layout, item: usize) -> &'static [u8]
@@ -63,72 +52,45 @@ fn set_info_text(
     out.push(yes_or_no(writable))
 }
 
-/// Reports the type, shape and strides of a name's array, and where its items are in its buffer, in
-/// bytes.
-pub fn info(bench: &Bench, name: &Name, out: &mut ReplyText) -> Result<(), Refusal>
-    ensures { CarriesOut (is_bound bench.now.state name.now)
-        (λ choice. info_outcome bench.now.state name.now)
-        bench.now.state bench.now.state out.new result }
-{
-    let Some(array) = bench.get(name) else {
-        return Err(Refusal::UnknownName);
-    };
-    set_info_text(out, name, array.descr, array.layout, array.writable)?;
-    Ok(())
-}
-
-/// Reports the format text of a name's array.
-pub fn format(bench: &Bench, name: &Name, out: &mut ReplyText) -> Result<(), Refusal>
-    ensures { CarriesOut (is_bound bench.now.state name.now)
-        (λ choice. format_outcome bench.now.state name.now)
-        bench.now.state bench.now.state out.new result }
-{
-    let Some(array) = bench.get(name) else {
-        return Err(Refusal::UnknownName);
-    };
-    let text = format_write(out.allocator(), array.descr)?;
-    out.set(b"format ", b"");
-    out.push(text.as_slice())?;
-    Ok(())
-}
-
-/// Appends a space and a name.
-fn push_name(out: &mut ReplyText, name: &[u8]) -> Result<(), AllocError>
-    ensures { OnOk result (out.new ≡ out.old ++ (codes " " ++ name.now)) }
-{
-    out.push(b" ")?;
-    out.push(name)
-}
-
-/// Makes `names` the reply, followed by each name.
+/// Makes `names` the reply, followed by each name in the order in which they were first bound.
 fn set_names_text(bench: &Bench, out: &mut ReplyText) -> Result<(), AllocError>
     ensures { OnOk result (out.new ≡ names_text bench.now.state) }
 {
     out.set(b"names", b"");
     for k in 0..bench.len() {
-        push_name(out, bench.name_at(k))?;
+        out.push(b" ")?;
+        out.push(bench.name_at(k))?;
     }
     Ok(())
 }
 
-/// Lists the names in the order in which they were first bound.
-pub fn names(bench: &Bench, out: &mut ReplyText) -> Result<(), Refusal>
-    ensures { CarriesOut true
-        (λ choice. accepted_with bench.now.state (names_text bench.now.state))
-        bench.now.state bench.now.state out.new result }
-{
-    set_names_text(bench, out)?;
-    Ok(())
-}
-
-/// Reports whether the arrays of two names share memory.
-pub fn shares(bench: &Bench, left: &Name, right: &Name, out: &mut ReplyText) -> Result<(), Refusal>
+/// Answers a question.
+pub fn reply(bench: &Bench, question: &Question, out: &mut ReplyText) -> Result<(), Refusal>
     ensures { CarriesOut
-        (is_bound bench.now.state left.now && is_bound bench.now.state right.now)
-        (λ choice. shares_outcome bench.now.state left.now right.now)
+        (list_all (is_bound bench.now.state) (bound_in_question question.now))
+        (λ choice. question_outcome bench.now.state question.now)
         bench.now.state bench.now.state out.new result }
 {
-    let yes = bench.shares(left, right)?;
-    out.set(b"shares ", yes_or_no(yes));
-    Ok(())
+    match question {
+        Question::Print { name } => {
+            let array = named_array(bench, name, None)?;
+            Ok(out.print(array.block.bytes(), array.layout, array.descr)?)
+        }
+        Question::Info { name } => {
+            let array = named_array(bench, name, None)?;
+            Ok(set_info_text(out, name, array.descr, array.layout, array.writable)?)
+        }
+        Question::Format { name } => {
+            let array = named_array(bench, name, None)?;
+            let text = format_write(out.allocator(), array.descr)?;
+            out.set(b"format ", b"");
+            Ok(out.push(text.as_slice())?)
+        }
+        Question::Names => Ok(set_names_text(bench, out)?),
+        Question::Shares { left, right } => {
+            let yes = bench.shares(left, right)?;
+            out.set(b"shares ", yes_or_no(yes));
+            Ok(())
+        }
+    }
 }

@@ -1,8 +1,8 @@
 //! Carries out one line, and makes its reply.
 ghost use Rattle.std.specs.Prelude.{◌≡◌, List};
-ghost use Rattle.bench_engine.specs.Clauses.{list_all, Bind, is_bound, CarriesOut, Carried, question_outcome, Reply, Tells, world, meaning_of, AnswersMeaning, AnswersLine, bound_in_question, MayAnswer, MayAnswerLine, ReadsAs, meaning_of_read};
+ghost use Rattle.bench_engine.specs.Clauses.{Carried, Reply, Tells, world, meaning_of, AnswersMeaning, AnswersLine, MayAnswer, MayAnswerLine, ReadsAs, meaning_of_read};
 
-use crate::ask::{format, info, names, print, shares};
+use crate::ask::reply;
 use crate::create::make;
 use crate::delete::delete;
 use crate::files::{load, save};
@@ -11,28 +11,12 @@ use crate::reply_text::ReplyText;
 use crate::session::{Line, MAX_LINE_LEN};
 use crate::undo::undo;
 use crate::view::view;
-use crate::write::{Assignment, set};
+use crate::write::{Selection, set};
 use elem_descr::{Name, Refusal};
 use name_store::Bench;
 use npy_files::NpyStore;
-use script_lang::{Command, Question, Value, parse, word};
+use script_lang::{Command, Value, parse, word};
 use std::alloc::Global;
-
-/// Answers a question.
-fn reply(bench: &Bench, question: &Question, out: &mut ReplyText) -> Result<(), Refusal>
-    ensures { CarriesOut
-        (list_all (is_bound bench.now.state) (bound_in_question question.now))
-        (λ choice. question_outcome bench.now.state question.now)
-        bench.now.state bench.now.state out.new result }
-{
-    match question {
-        Question::Print { name } => print(bench, name, out),
-        Question::Info { name } => info(bench, name, out),
-        Question::Format { name } => format(bench, name, out),
-        Question::Names => names(bench, out),
-        Question::Shares { left, right } => shares(bench, left, right, out),
-    }
-}
 
 /// Carries out a command, and makes its reply. After a refusal, only the text of the reply has
 /// changed, except that a store may have failed during a `save`.
@@ -54,13 +38,7 @@ fn perform<N: NpyStore>(
             Value::Load { file } => load(bench, store, name, file, out),
         },
         Command::Set { name, index, value } => {
-            let assignment = Assignment {
-                name,
-                index,
-                operation: None,
-                value,
-            };
-            set(bench, assignment, out)
+            set(bench, Selection { name, index }, None, value, out)
         }
         Command::Update {
             name,
@@ -68,13 +46,8 @@ fn perform<N: NpyStore>(
             operation,
             value,
         } => {
-            let assignment = Assignment {
-                name,
-                index,
-                operation: Some(*operation),
-                value,
-            };
-            set(bench, assignment, out)
+            let selection = Selection { name, index };
+            set(bench, selection, Some(*operation), value, out)
         }
         Command::Delete { name } => delete(bench, name, out),
         Command::Ask(question) => reply(bench, question, out),

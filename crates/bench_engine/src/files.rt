@@ -5,6 +5,7 @@ ghost use Rattle.bench_engine.specs.Clauses.{store_refusal, world, bound_loaded,
 ghost use Rattle.bench_engine.specs.declared.replies.Origin.TheVariants as origin;
 ghost use Rattle.bench_engine.specs.Clauses.{bound_text, held, Finds};
 
+use crate::index_list::named_array;
 use crate::replies::{Origin, set_bound_text};
 use crate::reply_text::ReplyText;
 use arrays::Owned;
@@ -39,9 +40,7 @@ pub fn save<N: NpyStore>(
         (Save name.now file.now) (world bench.now.state (N.shelf store.new)))
         out.new result }
 {
-    let Some(array) = bench.get(name) else {
-        return Err(Refusal::UnknownName);
-    };
+    let array = named_array(bench, name, None)?;
     let alloc = out.allocator();
     let parts = npy_parts(alloc, array.block, array.layout, array.descr)?;
     let front = parts.front.as_slice();

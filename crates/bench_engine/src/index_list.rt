@@ -1,12 +1,13 @@
 //! Index lists, which may name arrays, and what they select from an array: a view if they name no
 //! array, and a copy otherwise.
-ghost use Rattle.std.specs.Prelude.{◌≡◌, true, map, IfOk};
-ghost use Rattle.bench_engine.specs.Clauses.{list_all, index_item_of, index_items, is_bound, Shows, is_basic, Array, names_in_item, names_in_index, array_by_items, taken, Meets, IsAimed};
+ghost use Rattle.std.specs.Prelude.{◌≡◌, ◌∷◌, [], true, map, IfOk, option_copied, unwrap_or};
+ghost use Rattle.bench_engine.specs.Clauses.{list_all, index_item_of, index_items, is_bound, Shows, is_basic, Array, names_in_item, names_in_index, array_by_items, taken, Meets, IsAimed, IsNamed, Knows};
 
 use arrays::Items;
 use elem_descr::{IndexItem, Name, Refusal};
 use fancy_index::plan;
 use name_store::{ArrayRef, Bench, Target};
+use script_lang::Index;
 use shape_strides::MAX_BYTES;
 use std::alloc::{AllocError, Global};
 
@@ -21,10 +22,30 @@ fn is_bound(bench: &Bench, item: &IndexItem<Name>) -> bool
 }
 
 /// Whether each name in an index list is bound.
-pub fn are_bound(bench: &Bench, index: &[IndexItem<Name>]) -> bool
+fn are_bound(bench: &Bench, index: &[IndexItem<Name>]) -> bool
     ensures { result ≡ list_all (is_bound bench.now.state) (names_in_index index.now) }
 {
     index.iter().all(|item| is_bound(bench, item))
+}
+
+/// The array of a name. `UnknownName` if this name, or one in the index list after it, is not
+/// bound.
+pub fn named_array<'a>(
+    bench: &'a Bench,
+    name: &Name,
+    index: Option<&Index>,
+) -> Result<ArrayRef<'a>, Refusal>
+    ensures { Knows bench.now.state
+        (name.now ∷ names_in_index (unwrap_or (option_copied index.entry) []))
+        (IsNamed bench.now.state name.now) result }
+{
+    let array = bench.get(name).ok_or(Refusal::UnknownName)?;
+    if let Some(index) = index {
+        if !are_bound(bench, index.as_slice()) {
+            return Err(Refusal::UnknownName);
+        }
+    }
+    Ok(array)
 }
 
 /// An item with the array in place of its name.

@@ -7,7 +7,7 @@ ghost use Rattle.script_lang.specs.declared.command.Operation.TheVariants as ope
 ghost use Rattle.bench_engine.specs.Clauses.{held, IsInCOrder, bound_in_computation, computed_contents, origin_of, CarriesOut, Meets};
 
 use crate::create::{bind_new, filled, item_of};
-use crate::index_list::{are_bound, named_target};
+use crate::index_list::{named_array, named_target};
 use crate::replies::Origin;
 use crate::reply_text::ReplyText;
 use crate::write::{Given, given_by};
@@ -22,22 +22,8 @@ use script_lang::{Argument, Computation, Literal, Operand, Operation, ScalarLite
 use shape_strides::{Layout, Shape};
 use std::alloc::Global;
 
-/// The array of an operand's name. `UnknownName` if this name, or one in the index list, is not
-/// bound.
-fn operand_array<'a>(bench: &'a Bench, operand: &Operand) -> Result<ArrayRef<'a>, Refusal>
-    ensures { Knows bench.now.state (names_in_operand operand.now)
-        (IsNamed bench.now.state operand.now.name) result }
-{
-    let array = bench.get(&operand.name).ok_or(Refusal::UnknownName)?;
-    if let Some(index) = &operand.index {
-        if !are_bound(bench, index.as_slice()) {
-            return Err(Refusal::UnknownName);
-        }
-    }
-    Ok(array)
-}
-
-/// The array of an argument's name, or `None` for a literal. `UnknownName` as for an operand.
+/// The array of an argument's name, or `None` for a literal. `UnknownName` if this name, or one in
+/// the index list, is not bound.
 pub fn argument_array<'a>(
     bench: &'a Bench,
     value: &Argument,
@@ -46,7 +32,10 @@ pub fn argument_array<'a>(
         (IsNamedBy bench.now.state value.now) result }
 {
     match value {
-        Argument::Operand(operand) => Ok(Some(operand_array(bench, operand)?)),
+        Argument::Operand(operand) => {
+            let array = named_array(bench, &operand.name, operand.index.as_ref())?;
+            Ok(Some(array))
+        }
         Argument::Literal(_) => Ok(None),
     }
 }
@@ -272,15 +261,15 @@ fn find_sources<'a>(bench: &'a Bench, computation: &Computation) -> Result<Sourc
         Computation::Duplicate { source, .. }
         | Computation::Cast { source, .. }
         | Computation::Reduce { source, .. } => Ok(Sources {
-            first: bench.get(source).ok_or(Refusal::UnknownName)?,
+            first: named_array(bench, source, None)?,
             second: None,
         }),
         Computation::Transform { operand, .. } => Ok(Sources {
-            first: operand_array(bench, operand)?,
+            first: named_array(bench, &operand.name, operand.index.as_ref())?,
             second: None,
         }),
         Computation::Combine { left, right, .. } => Ok(Sources {
-            first: operand_array(bench, left)?,
+            first: named_array(bench, &left.name, left.index.as_ref())?,
             second: argument_array(bench, right)?,
         }),
     }

@@ -1,11 +1,11 @@
 //! `X = Y`, `X = Y[ix]`, `X = transpose Y`, `X = reshape Y S`, `X = broadcast Y S`, `X = field Y
 //! "f"`: bind a name to a view of another name's array, or to a copy of some of its items.
-ghost use Rattle.std.specs.Prelude.{◌≡◌, true, option_copied, ◌∷◌};
+ghost use Rattle.std.specs.Prelude.{◌≡◌, true, option_copied, unwrap_or, ◌∷◌, []};
 ghost use Rattle.bench_engine.specs.Clauses.{list_all, Whole, Indexed, Transposed, Reshaped, Broadcast, is_bound, Shows, Field, Array, names_in_index, names_in_viewing, view_outcome, IsShown, Sees, SeesIn, shape_of_bound, origin_of_bound, CarriesOut};
 ghost use Rattle.name_store.specs.declared.bound.Bound.TheVariants.{View};
 
 use crate::create::shape_of;
-use crate::index_list::{are_bound, named_target};
+use crate::index_list::{named_array, named_target};
 use crate::replies::{Origin, set_bound_text};
 use crate::reply_text::ReplyText;
 use arrays::Owned;
@@ -148,13 +148,13 @@ fn reshaped<'a>(
     })
 }
 
-/// Whether all names in a view's description are bound.
-pub fn has_bound(bench: &Bench, how: &Viewing) -> bool
-    ensures { result ≡ list_all (is_bound bench.now.state) (names_in_viewing how.now) }
+/// The index list in a view's description.
+fn index_in(how: &Viewing) -> Option<&Index>
+    ensures { names_in_index (unwrap_or (option_copied result) []) ≡ names_in_viewing how.now }
 {
     match how {
-        Viewing::Indexed(index) => are_bound(bench, index.as_slice()),
-        _ => true,
+        Viewing::Indexed(index) => Some(index),
+        _ => None,
     }
 }
 
@@ -199,12 +199,7 @@ pub fn view(
         (λ choice. view_outcome choice bench.old.state name.now source.now how.now)
         bench.old.state bench.new.state out.new result }
 {
-    let Some(array) = bench.get(source) else {
-        return Err(Refusal::UnknownName);
-    };
-    if !has_bound(bench, how) {
-        return Err(Refusal::UnknownName);
-    }
+    let array = named_array(bench, source, index_in(how))?;
     if !bench.has_room_for(name) {
         return Err(Refusal::TooManyNames);
     }

@@ -3,7 +3,7 @@ ghost use Rattle.std.specs.Prelude.{◌≡◌, ◌≤◌, ◌*◌, true, Some, �
 ghost use Rattle.bench_engine.specs.Clauses.{list_all, item_size, count, max_bytes, max_items, is_bound, State, Argument, Supplies, argument_items, names_in_argument, new_items, write_outcome, write_reply, Fitted, IsGiven, GivesGiven, IsNamedBy, names_in_index, CarriesOut, Meets, IsTargetIn, Prepares, WritesIn};
 
 use crate::create::item_of;
-use crate::index_list::{are_bound, named_target};
+use crate::index_list::{named_array, named_target};
 use crate::operate::{Part, argument_array, operand_part};
 use crate::reply_text::ReplyText;
 use crate::update::{Writing, updated};
@@ -106,13 +106,11 @@ fn set_count(out: &mut ReplyText, operation: Option<Operation>, count: usize)
     out.set(done, buffer.format(count).as_bytes());
 }
 
-/// `set X[ix] = Z`, or with an operation `upd X[ix] OP Z`.
+/// `X[ix]`, where items are written.
 #[derive(Clone, Copy)]
-pub struct Assignment<'a> {
+pub struct Selection<'a> {
     pub name: &'a Name,
     pub index: &'a Index,
-    pub operation: Option<Operation>,
-    pub value: &'a Argument,
 }
 
 /// The new items of a target, and their places: the items of an argument, or the result of an
@@ -139,45 +137,48 @@ fn new_items(
     }
 }
 
-/// What an assignment writes, and where. Unknown names are refused before any memory is allocated.
-fn writing_of(alloc: Global, bench: &Bench, assignment: Assignment<'_>) -> Result<Writing, Refusal>
-    ensures { Prepares bench.now.state assignment.entry.name.now assignment.entry.index.now
-        assignment.entry.operation assignment.entry.value.now result }
+/// What `set` or `upd` writes, and where. Unknown names are refused before any memory is allocated.
+fn writing_of(
+    alloc: Global,
+    bench: &Bench,
+    selection: Selection<'_>,
+    operation: Option<Operation>,
+    value: &Argument,
+) -> Result<Writing, Refusal>
+    ensures { Prepares bench.now.state selection.entry.name.now selection.entry.index.now
+        operation value.now result }
 {
-    let array = bench.get(assignment.name).ok_or(Refusal::UnknownName)?;
-    let index = assignment.index.as_slice();
-    if !are_bound(bench, index) {
-        return Err(Refusal::UnknownName);
-    }
-    let source = argument_array(bench, assignment.value)?;
-    let target = named_target(alloc, bench, &array, index)?;
+    let array = named_array(bench, selection.name, Some(selection.index))?;
+    let source = argument_array(bench, value)?;
+    let target = named_target(alloc, bench, &array, selection.index.as_slice())?;
     if !array.writable {
         return Err(Refusal::ReadOnly);
     }
     // These calls tell the prover how large an item may be, and how many items a shape may have.
     let _size = array.descr.size();
     let _count = target.shape().items();
-    let given = given_by(alloc, bench, assignment.value, source)?;
-    new_items(alloc, &array, target, assignment.operation, &given)
+    let given = given_by(alloc, bench, value, source)?;
+    new_items(alloc, &array, target, operation, &given)
 }
 
-/// Carries out `set` or `upd`, and makes the reply.
+/// `set X[ix] = Z`, or with an operation `upd X[ix] OP Z`.
 pub fn set(
     bench: &mut Bench,
-    assignment: Assignment<'_>,
+    selection: Selection<'_>,
+    operation: Option<Operation>,
+    value: &Argument,
     out: &mut ReplyText,
 ) -> Result<(), Refusal>
     ensures { CarriesOut
         (list_all (is_bound bench.old.state)
-        (assignment.entry.name.now ∷ names_in_index assignment.entry.index.now
-        ++ names_in_argument assignment.entry.value.now))
-        (λ choice. write_outcome bench.old.state assignment.entry.name.now
-        assignment.entry.index.now assignment.entry.operation assignment.entry.value.now)
+        (selection.entry.name.now ∷ names_in_index selection.entry.index.now
+        ++ names_in_argument value.now))
+        (λ choice. write_outcome bench.old.state selection.entry.name.now
+        selection.entry.index.now operation value.now)
         bench.old.state bench.new.state out.new result }
 {
-    let alloc = out.allocator();
-    let writing = writing_of(alloc, bench, assignment)?;
-    let count = bench.write_items(assignment.name, writing.target, writing.source)?;
-    set_count(out, assignment.operation, count);
+    let writing = writing_of(out.allocator(), bench, selection, operation, value)?;
+    let count = bench.write_items(selection.name, writing.target, writing.source)?;
+    set_count(out, operation, count);
     Ok(())
 }

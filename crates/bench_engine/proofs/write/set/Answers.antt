@@ -32,5 +32,5 @@ returns c =
     let done : c.write_items.new.self.state ≡ written s is.array is.part.places is.new =
     c.in_ok-count.ensures.answers.1 is.array leaves.places leaves.items leaves.leads (subst (λ (k : ℕ). Supplies s (descr_of s is.array) k c.in_ok-writing.writing.source leaves.items) (sym c.in_ok-count.ensures.answers.0) leaves.supplies) ∙ leaves.same in
     let any = spare s in
-    let told = c.set_count.ensures ∙ ap (write_reply c.args.assignment.operation) (c.in_ok-count.ensures.answers.0 ∙ leaves.counted) in
+    let told = c.set_count.ensures ∙ ap (write_reply c.args.operation) (c.in_ok-count.ensures.answers.0 ∙ leaves.counted) in
     (any.0, any.1, is.outcome ∙ (λ i. accepted_with (sym done i) (sym told i)))
