@@ -1,4 +1,4 @@
-use Rattle.std.proofs.Common.{◌≡◌, ◌+◌, ◌++◌, ℕ, List, length, take, IsTrue, refl, ap, ◌∙◌, sym, arith, length-append}
+use Rattle.std.proofs.Common.{◌≡◌, ◌+◌, ◌++◌, ℕ, List, length, take, IsTrue, ap, ◌∙◌, sym, arith, length-append}
 use Rattle.npy_files.proofs.Words.{length-replicate, stays, stays_again, take_at}
 use Rattle.npy_files.proofs.read.read_block.Goals as goal
 
