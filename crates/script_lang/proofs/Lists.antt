@@ -1,7 +1,6 @@
 -- Lists of entries, turn by turn.
 use Rattle.std.proofs.Common.{◌≡◌, ◌<◌, ◌≤◌, ℕ, Bool, is_some, ◌⊎◌, true, false, inl, inr, List, [], ◌∷◌, ◌++◌, length, Option, Some, None, refl, ap, sym, ◌∙◌, arith, append_assoc, nat_lt, length-append, IsTrue, IfSome}
-use Rattle.script_lang.proofs.Words.{option_map, option_and_then, append-nil, lt-ltb, cases_lt, false≢true, Refusal, Syntax, OutOfMemory, symbol_at, at_end, line_end_at, by_rule, entry_first, comma_next, one_or_more, none_or_more, row}
-use Rattle.script_lang.proofs.Shorter.{Shortens}
+use Rattle.script_lang.proofs.Words.{Shortens, option_map, option_and_then, append-nil, lt-ltb, cases_lt, false≢true, Refusal, Syntax, OutOfMemory, symbol_at, at_end, line_end_at, by_rule, entry_first, comma_next, one_or_more, none_or_more, row}
 use Rattle.script_lang.proofs.Turns.{one_turn, listed_goes_on, entries_goes_on, row_goes_on}
 
 -- what has been read so far, in front of what is read from the rest

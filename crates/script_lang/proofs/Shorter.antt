@@ -1,6 +1,6 @@
 -- A reader leaves fewer bytes than it was given.
 use Rattle.std.proofs.Common.{◌≡◌, ◌<◌, ◌≤◌, ℕ, zero, suc, Bool, true, false, List, [], ◌∷◌, length, Option, Some, None, arith, length-drop, nat_eq, codes, not, ◌==◌, subst, ℤ, nat_le, IfSome, if◌then◌else◌}
-use Rattle.script_lang.proofs.Words.{prefix_len, option_map, bytes_eq, eqb-suc-zero, IndexItem, Ellipsis, NewAxis, ScalarLiteral, Literal, ◌>>=◌, ◌or_else◌, if_found, where_true, is_blank, is_digit, is_name_byte, unspaced, byte_at, symbol_at, front_at, front_of, bytes_mark_at, is_parted, word_at, keyword_at, is_name, name_at, number_at, length_at, positive, negative, signed_at, integer_at, optional, optional_integer_at, in_turns, by_rule, closed, entry_first, comma_next, one_or_more, none_or_more, row, hex_value, hex_digit_at, escape_at, is_plain, plain_byte_at, text_byte_at, byte_text_at, integer_of, boolean_at, bytes_at, scalar_at, literal_of_scalar, record_at, literal_within, max_literal_depth, literal_at, step_at, slice_at, ellipsis_at, integer_item, item_with_rest, array_item, bare_item_at, index_item_at}
+use Rattle.script_lang.proofs.Words.{Shortens, prefix_len, option_map, bytes_eq, eqb-suc-zero, IndexItem, Ellipsis, NewAxis, ScalarLiteral, Literal, ◌>>=◌, ◌or_else◌, if_found, where_true, is_blank, is_digit, is_name_byte, unspaced, byte_at, symbol_at, front_at, front_of, bytes_mark_at, is_parted, word_at, keyword_at, is_name, name_at, number_at, length_at, positive, negative, signed_at, integer_at, optional, optional_integer_at, in_turns, by_rule, closed, entry_first, comma_next, one_or_more, none_or_more, row, hex_value, hex_digit_at, escape_at, is_plain, plain_byte_at, text_byte_at, byte_text_at, integer_of, boolean_at, bytes_at, scalar_at, literal_of_scalar, record_at, literal_within, max_literal_depth, literal_at, step_at, slice_at, ellipsis_at, integer_item, item_with_rest, array_item, bare_item_at, index_item_at}
 use Rattle.script_lang.proofs.Rooms.{after_step, after_known, mapped}
 
 -- fewer than `n` bytes remain: on their own, and after what is read
@@ -9,10 +9,6 @@ Few n rest = length rest < n
 
 abbrev pub Less : {A : Type 0} → ℕ → A × List ℕ → Type 0
 Less n r = length r.1 < n
-
--- a reader takes at least one byte
-abbrev pub Shortens : {A : Type 0} → (List ℕ → Option (A × List ℕ)) → Type 0
-Shortens entry_at = (bytes : List ℕ) → IfSome (entry_at bytes) (Less (length bytes))
 
 pub weaker : {A : Type 0} (P Q : A → Type 0) (o : Option A) → IfSome o P → ((x : A) → P x → Q x) → IfSome o Q
 weaker P Q None known each = tt

@@ -1,7 +1,7 @@
 -- More turns than there are bytes do not change what a rule reads.
 use Rattle.std.proofs.Common.{◌≡◌, ◌<◌, ℕ, zero, suc, List, ◌∷◌, length, Option, Some, None, refl, ap, arith, IfSome}
-use Rattle.script_lang.proofs.Words.{option_and_then, ◌or_else◌, byte_at, symbol_at, length_at, integer_at, in_turns, by_rule, AnyTurns, closed, entry_first, comma_next, one_or_more, none_or_more, row, text_byte_at, literal_within, literal_at, line_end_at, index_item_at, EachListAnyTurns}
-use Rattle.script_lang.proofs.Shorter.{Less, Few, Shortens, weaker, symbol_shorter, length_shorter, integer_shorter, index_item_shorter, text_byte_shorter, literal_within_shorter, literal_shorter}
+use Rattle.script_lang.proofs.Words.{Shortens, option_and_then, ◌or_else◌, byte_at, symbol_at, length_at, integer_at, in_turns, by_rule, AnyTurns, closed, entry_first, comma_next, one_or_more, none_or_more, row, text_byte_at, literal_within, literal_at, line_end_at, index_item_at, EachListAnyTurns}
+use Rattle.script_lang.proofs.Shorter.{Less, Few, weaker, symbol_shorter, length_shorter, integer_shorter, index_item_shorter, text_byte_shorter, literal_within_shorter, literal_shorter}
 
 -- a rule that takes at least one byte before it goes on
 abbrev pub GoesOn : {B : Type 0} → ((List ℕ → Option B) → List ℕ → Option B) → Type 0

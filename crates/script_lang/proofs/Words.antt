@@ -3,11 +3,11 @@ pub use Rattle.script_lang.specs.Commands.{computation_at, form_at, new_items_at
 unfoldable pub use Rattle.script_lang.specs.Commands.{bind_at, broadcast_at, cast_at, combine_at, command_at, compute_at, field_name_at, make_at, plain_view_at, reshape_at, set_at, transform_at, transpose_at, update_at, view_at}
 pub use Rattle.script_lang.specs.Descriptors.{depth_behind, descriptor_at, is_mark, named_behind}
 unfoldable pub use Rattle.script_lang.specs.Descriptors.{record_len, record_mark_at}
-pub use Rattle.script_lang.specs.Indexes.{array_item, bare_item_at, bare_name_at, bracket_at, integer_item, item_with_rest, literal_of, operand_at, operand_of, shape_at, signed_shape_at, step_at}
+pub use Rattle.script_lang.specs.Indexes.{array_item, bare_item_at, bare_name_at, bracket_at, integer_item, item_with_rest, literal_of, numbers_at, operand_at, operand_of, shape_at, signed_shape_at, step_at}
 unfoldable pub use Rattle.script_lang.specs.Indexes.{argument_at, ellipsis_at, index_at, index_item_at, operand_named, optional_index_at, slice_at}
 pub use Rattle.script_lang.specs.Lines.{EachListAnyTurns, is_allowed}
 pub use Rattle.script_lang.specs.Listed.{all_values, literals_of}
-pub use Rattle.script_lang.specs.Lists.{AnyTurns, closed}
+pub use Rattle.script_lang.specs.Lists.{AnyTurns, Shortens, closed}
 unfoldable pub use Rattle.script_lang.specs.Lists.{by_rule, comma_next, entry_first, in_turns, none_or_more, one_or_more, row}
 pub use Rattle.script_lang.specs.Literals.{hex_value, integer_of, is_plain, line_end_at, literal_of_scalar, max_literal_depth, plain_byte_at}
 unfoldable pub use Rattle.script_lang.specs.Literals.{boolean_at, byte_text_at, bytes_at, escape_at, hex_digit_at, literal_at, literal_within, record_at, scalar_at, text_byte_at}

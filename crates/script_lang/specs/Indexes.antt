@@ -9,17 +9,19 @@ use Rattle.script_lang.specs.Tokens.{◌>>=◌, ◌or_else◌, if_found, where_t
 use Rattle.script_lang.specs.Lists.{by_rule, none_or_more, one_or_more}
 use Rattle.script_lang.specs.Literals.{literal_at}
 
--- S: a shape, lengths in parentheses
-unfoldable pub shape_at : List ℕ → Option (List ℕ × List ℕ)
-shape_at bytes = do
+-- numbers in parentheses
+unfoldable pub numbers_at : {A : Type 0} → (List ℕ → Option (A × List ℕ)) → List ℕ → Option (List A × List ℕ)
+numbers_at entry_at bytes = do
   inside ← symbol_at 40 bytes
-  by_rule (none_or_more length_at 41) inside
+  by_rule (none_or_more entry_at 41) inside
+
+-- S: a shape
+abbrev pub shape_at : List ℕ → Option (List ℕ × List ℕ)
+shape_at bytes = numbers_at length_at bytes
 
 -- S whose lengths may have signs
-unfoldable pub signed_shape_at : List ℕ → Option (List ℤ × List ℕ)
-signed_shape_at bytes = do
-  inside ← symbol_at 40 bytes
-  by_rule (none_or_more integer_at 41) inside
+abbrev pub signed_shape_at : List ℕ → Option (List ℤ × List ℕ)
+signed_shape_at bytes = numbers_at integer_at bytes
 
 -- after the first colon of a slice and its stop: the step, if there is a second colon
 abbrev pub step_at : List ℕ → Option (List ℕ) → Option ℤ × List ℕ

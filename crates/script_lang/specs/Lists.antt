@@ -1,5 +1,5 @@
 -- Lists of entries. A rule reads a list, given a reader for the list after the first entry.
-use Rattle.std.specs.Prelude.{◌≡◌, ◌<◌, ℕ, zero, suc, List, [], ◌∷◌, length, Option, Some, None}
+use Rattle.std.specs.Prelude.{◌≡◌, ◌<◌, ℕ, zero, suc, List, [], ◌∷◌, length, Option, Some, None, IfSome}
 use Rattle.script_lang.specs.Words.{option_and_then}
 use Rattle.script_lang.specs.Tokens.{symbol_at, ◌>>=◌, ◌or_else◌}
 
@@ -15,6 +15,10 @@ by_rule rule bytes = in_turns rule (suc (length bytes)) bytes
 -- The rule reads the same in any number of turns above the number of bytes.
 abbrev pub AnyTurns : {B : Type 0} → ((List ℕ → Option B) → List ℕ → Option B) → Type 0
 AnyTurns rule = (turns : ℕ) (bytes : List ℕ) → length bytes < turns → in_turns rule turns bytes ≡ by_rule rule bytes
+
+-- a reader takes at least one byte
+abbrev pub Shortens : {A : Type 0} → (List ℕ → Option (A × List ℕ)) → Type 0
+Shortens entry_at = (bytes : List ℕ) → IfSome (entry_at bytes) (λ r. length r.1 < length bytes)
 
 -- the end of a list
 abbrev pub closed : {A : Type 0} → Option (List ℕ) → Option (List A × List ℕ)

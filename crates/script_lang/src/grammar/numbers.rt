@@ -1,11 +1,12 @@
 //! Numbers without a sign, integers, and the lists of numbers between parentheses.
-ghost use Rattle.std.specs.Prelude.{IfSome, length, true, ◌<◌, ◌^◌, ◌≡◌, ◌≤◌};
-ghost use Rattle.script_lang.specs.Clauses.{value_of, shape_at, signed_shape_at, Takes, Scans, integer_at, is_digit, length_at, number_at, optional_integer_at, list_all};
+ghost use Rattle.std.specs.Prelude.{IfSome, List, Option, length, true, ℕ, ◌<◌, ◌^◌, ◌≡◌, ◌≤◌};
+ghost use Rattle.script_lang.specs.Clauses.{value_of, numbers_at, Shortens, Takes, Scans, integer_at, is_digit, length_at, number_at, optional_integer_at, list_all};
 
-use crate::command::{Integers, Lengths};
 use crate::grammar::tokens::{Class, byte, front, is_parted, symbol, unspaced};
+use crate::short_list::ShortList;
 use elem_descr::Refusal;
 use std::alloc::Global;
+use std::default::MadeWith;
 
 /// The maximum number of digits of a number.
 const MAX_DIGITS: usize = 30;
@@ -34,14 +35,6 @@ fn number(bytes: &[u8]) -> Option<(u128, &[u8])>
         return None;
     }
     Some((value_of(digits), rest))
-}
-
-/// The next integer without a sign, with any blanks before it, and what follows it.
-#[tactic(auto, unfolding(crate::specs::Tokens::length_at))]
-pub fn length(bytes: &[u8]) -> Option<(u128, &[u8])>
-    ensures { Scans (λ n. (n.0, n.1.now)) result (length_at bytes.now) }
-{
-    number(unspaced(bytes))
 }
 
 /// The next integer, with any blanks before it, and what follows it.
@@ -73,48 +66,51 @@ pub fn optional_integer(bytes: &[u8]) -> (Option<i128>, &[u8])
     }
 }
 
-/// The next shape, and what follows it.
-#[tactic(auto, unfolding(crate::specs::Indexes::shape_at))]
-pub fn shape(alloc: Global, bytes: &[u8]) -> Result<(Lengths, &[u8]), Refusal>
-    ensures { Takes (λ _. true) result (shape_at bytes.now) }
-{
-    let mut lengths = Lengths::new(alloc);
-    let mut rest = symbol(b'(', bytes).ok_or(Refusal::Syntax)?;
-    loop {
-        if let Some(end) = symbol(b')', rest) {
-            return Ok((lengths, end));
-        }
-        let Some((entry, after)) = length(rest) else {
-            return Err(Refusal::Syntax);
-        };
-        lengths.push(entry)?;
-        if let Some(end) = symbol(b')', after) {
-            return Ok((lengths, end));
-        }
-        let Some(next) = symbol(b',', after) else {
-            return Err(Refusal::Syntax);
-        };
-        rest = next;
+/// A number of a shape.
+pub trait Entry: Sized + MadeWith<Global> + Drop {
+    ghost entry_at: { List ℕ → Option (Self × List ℕ) };
+
+    /// The next one, with any blanks before it, and what follows it.
+    fn next(bytes: &[u8]) -> Option<(Self, &[u8])>
+        ensures { Scans (λ n. (n.0, n.1.now)) result (entry_at bytes.now) };
+}
+
+/// A number without a sign.
+impl Entry for u128 {
+    ghost entry_at = { length_at };
+
+    #[tactic(auto, unfolding(crate::specs::Tokens::length_at))]
+    fn next(bytes: &[u8]) -> Option<(u128, &[u8])> {
+        number(unspaced(bytes))
     }
 }
 
-/// The next shape with signs, and what follows it.
-#[tactic(auto, unfolding(crate::specs::Indexes::signed_shape_at))]
-pub fn signed_shape(alloc: Global, bytes: &[u8]) -> Result<(Integers, &[u8]), Refusal>
-    ensures { Takes (λ _. true) result (signed_shape_at bytes.now) }
+impl Entry for i128 {
+    ghost entry_at = { integer_at };
+
+    fn next(bytes: &[u8]) -> Option<(i128, &[u8])> {
+        integer(bytes)
+    }
+}
+
+/// The next numbers between parentheses, and what follows them.
+#[tactic(auto, unfolding(crate::specs::Indexes::numbers_at))]
+pub fn shape<T: Entry>(alloc: Global, bytes: &[u8]) -> Result<(ShortList<T, 8>, &[u8]), Refusal>
+    requires { Shortens T.entry_at }
+    ensures { Takes (λ _. true) result (numbers_at T.entry_at bytes.now) }
 {
-    let mut integers = Integers::new(alloc);
+    let mut numbers = ShortList::new(alloc);
     let mut rest = symbol(b'(', bytes).ok_or(Refusal::Syntax)?;
     loop {
         if let Some(end) = symbol(b')', rest) {
-            return Ok((integers, end));
+            return Ok((numbers, end));
         }
-        let Some((entry, after)) = integer(rest) else {
+        let Some((entry, after)) = T::next(rest) else {
             return Err(Refusal::Syntax);
         };
-        integers.push(entry)?;
+        numbers.push(entry)?;
         if let Some(end) = symbol(b')', after) {
-            return Ok((integers, end));
+            return Ok((numbers, end));
         }
         let Some(next) = symbol(b',', after) else {
             return Err(Refusal::Syntax);

@@ -4,7 +4,7 @@ ghost use Rattle.script_lang.specs.Clauses.{plain_view_at, viewing_at, view_at, 
 use crate::command::{Value, Viewing};
 use crate::grammar::indexes::optional_index;
 use crate::grammar::names::{name, names_unless_verb};
-use crate::grammar::numbers::{shape, signed_shape};
+use crate::grammar::numbers::shape;
 use crate::grammar::quotes::quoted;
 use crate::grammar::tokens::is_at_end;
 use crate::text::Text;
@@ -34,7 +34,7 @@ pub fn plain_view<'a>(
 }
 
 /// How the items are viewed, after the name.
-#[tactic(auto, unfolding(crate::specs::Commands::field_name_at, crate::specs::Commands::transpose_at, crate::specs::Commands::reshape_at, crate::specs::Commands::broadcast_at), using(crate::proofs::Commands::field_room, crate::proofs::Commands::transpose_room, crate::proofs::Commands::reshape_room, crate::proofs::Commands::broadcast_room))]
+#[tactic(auto, unfolding(crate::specs::Commands::field_name_at, crate::specs::Commands::transpose_at, crate::specs::Commands::reshape_at, crate::specs::Commands::broadcast_at), using(crate::proofs::Commands::field_room, crate::proofs::Commands::transpose_room, crate::proofs::Commands::reshape_room, crate::proofs::Commands::broadcast_room, crate::proofs::Shorter::length_shorter, crate::proofs::Shorter::integer_shorter))]
 fn viewing(alloc: Global, verb: ViewVerb, bytes: &[u8]) -> Result<(Viewing, &[u8]), Refusal>
     ensures { Takes viewing_room result (viewing_at verb bytes.now) }
 {
@@ -46,11 +46,11 @@ fn viewing(alloc: Global, verb: ViewVerb, bytes: &[u8]) -> Result<(Viewing, &[u8
         }
         ViewVerb::Transpose if is_at_end(bytes) => Ok((Viewing::Transposed(None), bytes)),
         ViewVerb::Transpose => {
-            let (axes, rest) = signed_shape(alloc, bytes)?;
+            let (axes, rest) = shape(alloc, bytes)?;
             Ok((Viewing::Transposed(Some(axes)), rest))
         }
         ViewVerb::Reshape => {
-            let (shape, rest) = signed_shape(alloc, bytes)?;
+            let (shape, rest) = shape(alloc, bytes)?;
             Ok((Viewing::Reshaped(shape), rest))
         }
         ViewVerb::Broadcast => {
