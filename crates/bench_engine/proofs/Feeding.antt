@@ -1,7 +1,6 @@
 -- A session that is fed more bytes.
-use Rattle.std.proofs.Common.{◌≡◌, ◌≢◌, ◌<◌, ◌+◌, ℕ, Bool, true, false, List, [], ◌∷◌, ◌++◌, length, map, Option, Some, None, is_some, refl, sym, ap, ◌∙◌, subst, arith, append_assoc, add_assoc, not, cond, ◌&&◌, nat_eq, count_by}
-use Rattle.bench_engine.proofs.Words.{Appends, eqb-suc-zero, false≢true, All-nil, sum_by-append, append-nil, map-append, flat_map-append, State, StoreState, appends_nothing, appends_then, Sends, Session, Reply, World, world, AnswersLine, meaning_of, Run, IsUnbroken, trimmed, output, reply_line, accepted_count, refused_count, AnswersInPart, HoldsPiece, HoldsBytes, HasTold, Fed, FedInPart, Ends, EndsInPart, AsksToPrint, MayPrint, Told, ToldInPart, AnswersHeld}
-use Rattle.bench_engine.proofs.Steps.{answered_weaker}
+use Rattle.std.proofs.Common.{◌≡◌, ◌≢◌, ◌<◌, ◌+◌, ℕ, Bool, true, false, List, [], ◌∷◌, ◌++◌, length, map, Option, refl, sym, ap, ◌∙◌, subst, arith, append_assoc, add_assoc, not, cond, ◌&&◌, nat_eq, count_by, Result, Ok, Err, OnOk, OnErr}
+use Rattle.bench_engine.proofs.Words.{Appends, eqb-suc-zero, false≢true, All-nil, sum_by-append, append-nil, map-append, flat_map-append, State, StoreState, appends_nothing, appends_then, Sends, Session, Reply, World, world, Meaning, AnswersMeaning, AnswersLine, meaning_of, Run, IsUnbroken, trimmed, output, reply_line, accepted_count, refused_count, AnswersInPart, HoldsPiece, HoldsBytes, HasTold, Fed, FedInPart, Ends, Told, ToldInPart, TellsHeld, WriteFault}
 use Rattle.bench_engine.proofs.Lines.{splits, splits-one, splits-more, splits-then, splits-on, lines-one, lines-none}
 
 count_by-append : (p : Reply → Bool) (xs ys : List Reply) → count_by p (xs ++ ys) ≡ count_by p xs + count_by p ys
@@ -20,21 +19,7 @@ held-none (b ∷ bytes) true piece none holds = absurd (false≢true (rw (eqb-su
 held-none [] false piece none holds = sym holds
 held-none (b ∷ bytes) false piece none holds = absurd (false≢true (rw (eqb-suc-zero (length bytes)) at none))
 
--- the reply in `out`, of which only a part was written
-pub told-in-part : (shelf shelf' : StoreState) (old new : Session) (answered : Option Bool) (written written' : Option (List ℕ)) → true ≡ is_some answered → AnswersHeld shelf shelf' old new answered →
-    ((gone missing : List ℕ) × (new.out ++ 10 ∷ [] ≡ gone ++ missing) × (0 < length missing) × Appends written written' gone) → ToldInPart (world old.bench.state shelf) (world new.bench.state shelf') written written' old
-told-in-part shelf shelf' old new None written written' some held part = cc
-told-in-part shelf shelf' old new (Some accepted) written written' some held part = record {
-  reply = held.tells.0;
-  answers = λ piece holds. subst (λ (replies : List Reply). AnswersLine (world old.bench.state shelf) (trimmed piece) (world new.bench.state shelf') replies) held.tells.1 (held.answers piece holds);
-  gone = part.0;
-  missing = part.1;
-  broken = ap (λ text. text ++ 10 ∷ []) (sym held.tells.3) ∙ part.2;
-  some_missing = part.3;
-  sent = part.4;
-}
-
--- a reply whose rest is written, followed by a newline; and one that is cut short in its rest
+-- a reply whose rest is written, followed by a newline
 sent-line : (w w' w'' : Option (List ℕ)) (rest text : List ℕ) → Sends w w' rest text → Appends w' w'' (rest ++ 10 ∷ []) → Appends w w'' (text ++ 10 ∷ [])
 sent-line w w' w'' rest text sent more =
     subst (Appends w w'') (sym (append_assoc sent.0 rest (10 ∷ [])) ∙ ap (λ t. t ++ 10 ∷ []) (sym sent.1)) (appends_then w w' w'' sent.0 (rest ++ 10 ∷ []) sent.2 more)
@@ -43,27 +28,50 @@ counted : (reply : Reply) (accepted : Bool) → reply.accepted ≡ accepted → 
 counted reply true is = rw is (refl, refl)
 counted reply false is = rw is (refl, refl)
 
-pub told-print : (shelf : StoreState) (old new : Session) (name : List ℕ) (w w' w'' : Option (List ℕ)) (rest : List ℕ) (reply : Reply) (accepted : Bool) → new.bench.state ≡ old.bench.state → ((piece : List ℕ) → HoldsPiece old.line piece → AsksToPrint name (meaning_of (trimmed piece))) → MayPrint old.bench.state name reply →
-    Sends w w' rest reply.text → Appends w' w'' (rest ++ 10 ∷ []) → reply.accepted ≡ accepted → new.accepted ≡ old.accepted + cond accepted 1 0 → new.refused ≡ old.refused + cond accepted 0 1 → Told (world old.bench.state shelf) (world new.bench.state shelf) w w'' old new
-told-print shelf old new name w w' w'' rest reply accepted same asks may sent more is more_accepted more_refused = record {
-  replies = reply ∷ [];
-  answers = λ piece holds. subst (λ (s : State). AnswersLine (world old.bench.state shelf) (trimmed piece) (world s shelf) (reply ∷ [])) (sym same) (answered_weaker _ _ _ _ reply (asks piece holds) (may shelf));
-  sent = subst (Appends w w'') (sym (append-nil (reply.text ++ 10 ∷ []))) (sent-line w w' w'' rest reply.text sent more);
-  accepted = more_accepted ∙ ap (λ n. old.accepted + n) (sym (counted reply accepted is).0);
-  refused = more_refused ∙ ap (λ n. old.refused + n) (sym (counted reply accepted is).1);
-}
+-- the line that a session holds is answered
+module _ (from to : World) (meaning : Meaning) (old : Session) (reads : (piece : List ℕ) → HoldsPiece old.line piece → meaning ≡ meaning_of (trimmed piece)) where
+  held : (replies : List Reply) → AnswersMeaning from meaning to replies → (piece : List ℕ) → HoldsPiece old.line piece → AnswersLine from (trimmed piece) to replies
+  held replies answers piece holds = subst (λ (m : Meaning). AnswersMeaning from m to replies) (reads piece holds) answers
 
-pub cut-print : (shelf : StoreState) (old new : Session) (name : List ℕ) (w w' : Option (List ℕ)) (gone missing : List ℕ) (reply : Reply) → new.bench.state ≡ old.bench.state → ((piece : List ℕ) → HoldsPiece old.line piece → AsksToPrint name (meaning_of (trimmed piece))) → MayPrint old.bench.state name reply →
-    reply.text ++ 10 ∷ [] ≡ gone ++ missing → 0 < length missing → Appends w w' gone → ToldInPart (world old.bench.state shelf) (world new.bench.state shelf) w w' old
-cut-print shelf old new name w w' gone missing reply same asks may broken some sent = record {
-  reply = reply;
-  answers = λ piece holds. subst (λ (s : State). AnswersLine (world old.bench.state shelf) (trimmed piece) (world s shelf) (reply ∷ [])) (sym same) (answered_weaker _ _ _ _ reply (asks piece holds) (may shelf));
-  gone = gone;
-  missing = missing;
-  broken = broken;
-  some_missing = some;
-  sent = sent;
-}
+  -- it asks for nothing
+  pub told-none : (new : Session) (w w' : Option (List ℕ)) → AnswersMeaning from meaning to [] → w' ≡ w → new.accepted ≡ old.accepted → new.refused ≡ old.refused → Told from to w w' old new
+  told-none new w w' answers same same-accepted same-refused = record {
+    replies = [];
+    answers = held [] answers;
+    sent = subst (λ (x : Option (List ℕ)). Appends w x []) (sym same) (appends_nothing w);
+    accepted = omega arith;
+    refused = omega arith;
+  }
+
+  -- the reply is sent
+  told-sent : (new : Session) (w w' w'' : Option (List ℕ)) (rest : List ℕ) (reply : Reply) (accepted : Bool) → AnswersMeaning from meaning to (reply ∷ []) → reply.accepted ≡ accepted → Sends w w' rest reply.text → Appends w' w'' (rest ++ 10 ∷ []) →
+      new.accepted ≡ old.accepted + cond accepted 1 0 → new.refused ≡ old.refused + cond accepted 0 1 → Told from to w w'' old new
+  told-sent new w w' w'' rest reply accepted answers is sent more more_accepted more_refused = record {
+    replies = reply ∷ [];
+    answers = held (reply ∷ []) answers;
+    sent = subst (Appends w w'') (sym (append-nil (reply.text ++ 10 ∷ []))) (sent-line w w' w'' rest reply.text sent more);
+    accepted = more_accepted ∙ ap (λ n. old.accepted + n) (sym (counted reply accepted is).0);
+    refused = more_refused ∙ ap (λ n. old.refused + n) (sym (counted reply accepted is).1);
+  }
+
+  -- the reply is cut short
+  pub cut-sent : (w w' w'' : Option (List ℕ)) (rest : List ℕ) (reply : Reply) → AnswersMeaning from meaning to (reply ∷ []) → Sends w w' rest reply.text → ((gone missing : List ℕ) × (rest ++ 10 ∷ [] ≡ gone ++ missing) × (0 < length missing) × Appends w' w'' gone) → ToldInPart from to w w'' old
+  cut-sent w w' w'' rest reply answers sent part = record {
+    reply = reply;
+    answers = held (reply ∷ []) answers;
+    gone = sent.0 ++ part.0;
+    missing = part.1;
+    broken = ap (λ t. t ++ 10 ∷ []) sent.1 ∙ append_assoc sent.0 rest (10 ∷ []) ∙ ap (λ t. sent.0 ++ t) part.2 ∙ sym (append_assoc sent.0 part.0 part.1);
+    some_missing = part.3;
+    sent = appends_then w w' w'' sent.0 part.0 sent.2 part.4;
+  }
+
+  -- the rest of the reply is sent, or cut short
+  pub tells-held : (new : Session) (w w' w'' : Option (List ℕ)) (rest : List ℕ) (reply : Reply) (accepted : Bool) (result : Result (Unit {0}) WriteFault) → AnswersMeaning from meaning to (reply ∷ []) → reply.accepted ≡ accepted → Sends w w' rest reply.text →
+      OnOk result (Appends w' w'' (rest ++ 10 ∷ [])) → OnErr result ((gone missing : List ℕ) × (rest ++ 10 ∷ [] ≡ gone ++ missing) × (0 < length missing) × Appends w' w'' gone) →
+      new.accepted ≡ old.accepted + cond accepted 1 0 → new.refused ≡ old.refused + cond accepted 0 1 → TellsHeld from to w w'' old new result
+  tells-held new w w' w'' rest reply accepted (Ok _) answers is sent more part more_accepted more_refused = told-sent new w w' w'' rest reply accepted answers is sent more more_accepted more_refused
+  tells-held new w w' w'' rest reply accepted (Err _) answers is sent more part more_accepted more_refused = cut-sent w w' w'' rest reply answers sent part
 
 -- two runs in a row
 run-append : (old mid new : World) (lines more : List (List ℕ)) (xs ys : List Reply) → Run old lines xs mid → Run mid more ys new → Run old (lines ++ more) (xs ++ ys) new
@@ -207,22 +215,18 @@ fed_in_part_along start shelf before written xs ys same cut = subst (λ bytes. F
 
 -- ---- the end
 
--- the last line is answered
-pub ends-told : (shelf shelf' : StoreState) (written written' : Option (List ℕ)) (held : List ℕ) (old new : Session) → IsUnbroken held → (nat_eq (length old.line.bytes.items) 0 && not old.line.is_long) ≡ false → HoldsPiece old.line held →
-    Told (world old.bench.state shelf) (world new.bench.state shelf') written written' old new → Ends shelf shelf' written written' held old new
-ends-told shelf shelf' written written' held old new unbroken some holds told =
+-- the last line is answered, and its reply is written or cut short
+pub ends-line : (shelf shelf' : StoreState) (written written' : Option (List ℕ)) (held : List ℕ) (old new : Session) (result : Result (Unit {0}) WriteFault) → IsUnbroken held → (nat_eq (length old.line.bytes.items) 0 && not old.line.is_long) ≡ false → HoldsPiece old.line held →
+    TellsHeld (world old.bench.state shelf) (world new.bench.state shelf') written written' old new result → Ends shelf shelf' written written' held old new result
+ends-line shelf shelf' written written' held old new (Ok _) unbroken some holds told =
     (trimmed held ∷ [], lines-one held unbroken (held-some _ _ held some holds), told-one _ _ written written' held old new holds told)
-
--- the last line is answered, and its reply is cut short
-pub ends-cut : (from : World) (state : State) (shelf : StoreState) (written written' : Option (List ℕ)) (held : List ℕ) (old : Session) → IsUnbroken held → (nat_eq (length old.line.bytes.items) 0 && not old.line.is_long) ≡ false → HoldsPiece old.line held →
-    ToldInPart from (world state shelf) written written' old → EndsInPart from shelf written written' held
-ends-cut from state shelf written written' held old unbroken some holds part =
-    (trimmed held ∷ [], lines-one held unbroken (held-some _ _ held some holds), cut-one from state shelf written written' held [] old holds part)
+ends-line shelf shelf' written written' held old new (Err _) unbroken some holds part =
+    (trimmed held ∷ [], lines-one held unbroken (held-some _ _ held some holds), cut-one _ _ shelf' written written' held [] old holds part)
 
 -- there is no last line
-pub ends-empty : (shelf : StoreState) (written : Option (List ℕ)) (held : List ℕ) (s : Session) → (nat_eq (length s.line.bytes.items) 0 && not s.line.is_long) ≡ true → HoldsPiece s.line held → Ends shelf shelf written written held s s
+pub ends-empty : (shelf : StoreState) (written : Option (List ℕ)) (held : List ℕ) (s : Session) → (nat_eq (length s.line.bytes.items) 0 && not s.line.is_long) ≡ true → HoldsPiece s.line held → Ends shelf shelf written written held s s (Ok tt)
 ends-empty shelf written held s none holds =
-    subst (λ (bytes : List ℕ). Ends shelf shelf written written bytes s s) (sym (held-none _ _ held none holds)) (
+    subst (λ (bytes : List ℕ). Ends shelf shelf written written bytes s s (Ok tt)) (sym (held-none _ _ held none holds)) (
       [],
       lines-none,
       record {

@@ -92,7 +92,7 @@ command_weaker old new command may reply (inl (inr lacks)) = inr lacks.1
 command_weaker old new command may reply (inr lacks) = inr lacks.1
 
 -- the answer to a line is one that the headline allows
-line_weaker : (old new : World) (meaning : Meaning) (replies : List Reply) → MayAnswerLine old meaning new replies → AnswersMeaning old meaning new replies
+pub line_weaker : (old new : World) (meaning : Meaning) (replies : List Reply) → MayAnswerLine old meaning new replies → AnswersMeaning old meaning new replies
 line_weaker old new too_long replies is = is
 line_weaker old new (says silent) replies is = is
 line_weaker old new (says bad_byte) replies is = is
@@ -102,9 +102,3 @@ line_weaker old new (says (asks command)) replies is = (is.0, is.1, command_weak
 -- the same for a line that asks for a command
 pub answered_weaker : (old new : World) (meaning : Meaning) (command : Command) (reply : Reply) → ReadsAs (Ok (Some command)) meaning → MayAnswer old command new reply → AnswersMeaning old meaning new (reply ∷ [])
 answered_weaker old new meaning command reply reads done = line_weaker old new meaning (reply ∷ []) (answered old new meaning command reply reads done)
-
-pub refused_weaker : (old : World) (meaning : Meaning) (r : Refusal) → ReadsAs (Err r) meaning → AnswersMeaning old meaning old (refusal r ∷ [])
-refused_weaker old meaning r is = line_weaker old old meaning (refusal r ∷ []) (refused_line old meaning r is)
-
-pub silent_weaker : (old : World) (meaning : Meaning) → ReadsAs (Ok None) meaning → AnswersMeaning old meaning old []
-silent_weaker old meaning is = line_weaker old old meaning [] (silent_line old meaning is)

@@ -83,7 +83,7 @@ reading-new depth before session new = record {
       accepted = new.accepted;
       refused = new.refused;
     };
-    held = rw new.whole new.line;
+    held = new.line;
   };
 }
 

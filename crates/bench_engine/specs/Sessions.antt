@@ -1,6 +1,7 @@
 -- The state of a session, and what it has done after some bytes of the script.
-use Rattle.std.specs.Prelude.{◌≡◌, ◌<◌, ◌+◌, ℕ, Bool, true, false, List, [], ◌++◌, length, map, Option}
+use Rattle.std.specs.Prelude.{◌≡◌, ◌<◌, ◌+◌, ℕ, Bool, true, false, List, [], ◌++◌, length, map, Option, Result, Ok, Err}
 use Rattle.bench_engine.specs.Words.{Appends, start, StoreState}
+use Rattle.array_print.specs.declared.bands.WriteFault.{WriteFault}
 use Rattle.bench_engine.specs.declared.session.HeldLine.{HeldLine}
 use Rattle.bench_engine.specs.declared.session.Session.{Session}
 use Rattle.bench_engine.specs.Replies.{Reply}
@@ -32,29 +33,28 @@ pub record Fed (from to : World) (written written' : Option (List ℕ)) (bytes :
   pub told : HasTold from to written written' (map trimmed pieces) earlier_accepted earlier_refused s
   pub held : HoldsPiece s.line rest
 
--- These bytes follow `held`, the piece of a line that the session holds. Each line that a newline ends is answered, all
--- replies are written and counted, and the session holds what follows the last newline.
-abbrev pub Feeds : StoreState → StoreState → Option (List ℕ) → Option (List ℕ) → List ℕ → List ℕ → Session → Session → Type 0
-Feeds shelf shelf' written written' held bytes old new =
-    Fed (world old.bench.state shelf) (world new.bench.state shelf') written written' (held ++ bytes) old.accepted old.refused new
-
 -- a prefix of the lines that a newline ends in these bytes is answered, and the last reply is cut short
 abbrev pub FedInPart : World → StoreState → Option (List ℕ) → Option (List ℕ) → List ℕ → Type 0
 FedInPart first shelf written written' bytes = (lines : List (List ℕ)) × AreWholeLines bytes lines × AnswersInPart lines first shelf written written'
 
--- The piece that the session holds is answered as the last line, unless it is empty.
-abbrev pub Ends : StoreState → StoreState → Option (List ℕ) → Option (List ℕ) → List ℕ → Session → Session → Type 0
-Ends shelf shelf' written written' held old new =
-    (lines : List (List ℕ)) × AreLines held lines × HasTold (world old.bench.state shelf) (world new.bench.state shelf') written written' lines old.accepted old.refused new
+-- These bytes follow `held`, the piece of a line that the session holds. After `Ok`, each line that a newline ends is
+-- answered, all replies are written and counted, and the session holds what follows the last newline.
+abbrev pub Feeds : StoreState → StoreState → Option (List ℕ) → Option (List ℕ) → List ℕ → List ℕ → Session → Session → Result (Unit {0}) WriteFault → Type 0
+Feeds shelf shelf' written written' held bytes old new (Ok _) =
+    Fed (world old.bench.state shelf) (world new.bench.state shelf') written written' (held ++ bytes) old.accepted old.refused new
+Feeds shelf shelf' written written' held bytes old new (Err _) = FedInPart (world old.bench.state shelf) shelf' written written' (held ++ bytes)
 
--- the same, but the last reply is cut short
-abbrev pub EndsInPart : World → StoreState → Option (List ℕ) → Option (List ℕ) → List ℕ → Type 0
-EndsInPart first shelf written written' held = (lines : List (List ℕ)) × AreLines held lines × AnswersInPart lines first shelf written written'
+-- The piece that the session holds is answered as the last line, unless it is empty. After an error, the last reply is
+-- cut short.
+abbrev pub Ends : StoreState → StoreState → Option (List ℕ) → Option (List ℕ) → List ℕ → Session → Session → Result (Unit {0}) WriteFault → Type 0
+Ends shelf shelf' written written' held old new (Ok _) =
+    (lines : List (List ℕ)) × AreLines held lines × HasTold (world old.bench.state shelf) (world new.bench.state shelf') written written' lines old.accepted old.refused new
+Ends shelf shelf' written written' held old new (Err _) =
+    (lines : List (List ℕ)) × AreLines held lines × AnswersInPart lines (world old.bench.state shelf) shelf' written written'
 
 -- a new session: it has read nothing, and its bench keeps up to `depth` earlier states
 pub record IsNew (depth : ℕ) (s : Session) : Type 0 where
   pub bench : s.bench.state ≡ start depth
-  pub line : s.line.bytes.items ≡ []
-  pub whole : s.line.is_long ≡ false
+  pub line : HoldsPiece s.line []
   pub accepted : s.accepted ≡ 0
   pub refused : s.refused ≡ 0

@@ -78,8 +78,7 @@ fn full(alloc: Global, descr: &Text, lengths: &Lengths, literal: &Literal) -> Re
     let item = item_of(alloc, &descr, literal)?;
     let block = filled(alloc, item.as_slice(), shape.items())?;
     drop(item);
-    let owned = Owned::over(alloc, descr, &shape, MemoryOrder::C, block)?;
-    Ok(owned)
+    Ok(Owned::over(alloc, descr, &shape, MemoryOrder::C, block)?)
 }
 
 /// A block of the items that these literals mean, one after another.
@@ -111,8 +110,7 @@ fn array(
         return Err(Refusal::NumberOfValues);
     }
     let block = listed(alloc, &descr, literals)?;
-    let owned = Owned::over(alloc, descr, &shape, MemoryOrder::C, block)?;
-    Ok(owned)
+    Ok(Owned::over(alloc, descr, &shape, MemoryOrder::C, block)?)
 }
 
 /// The scalar of an integer element type.
@@ -144,8 +142,7 @@ fn arange(
     let len = range_len(start, stop, step)?;
     let shape = Shape::try_new(alloc, &[len])?;
     let block = range_block(alloc, &scalar, start, stop, step)?;
-    let owned = Owned::over(alloc, Descr::Scalar(scalar), &shape, MemoryOrder::C, block)?;
-    Ok(owned)
+    Ok(Owned::over(alloc, Descr::Scalar(scalar), &shape, MemoryOrder::C, block)?)
 }
 
 /// The array that a creating command describes.

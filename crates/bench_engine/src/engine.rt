@@ -1,15 +1,13 @@
 //! Carries out one line, and makes its reply.
 ghost use Rattle.std.specs.Prelude.{◌≡◌, List};
-ghost use Rattle.bench_engine.specs.Clauses.{Carried, Reply, Tells, world, meaning_of, AnswersMeaning, AnswersLine, MayAnswer, MayAnswerLine, ReadsAs, meaning_of_read};
+ghost use Rattle.bench_engine.specs.Clauses.{Carried, Reply, Tells, world, meaning_of, Meaning, AnswersLine, MayAnswer, MayAnswerLine, ReadsAs, meaning_of_read};
 
 use crate::ask::reply;
 use crate::create::make;
-use crate::delete::delete;
 use crate::files::{load, save};
 use crate::operate::compute;
 use crate::reply_text::ReplyText;
 use crate::session::{Line, MAX_LINE_LEN};
-use crate::undo::undo;
 use crate::view::view;
 use crate::write::{Selection, set};
 use elem_descr::{Name, Refusal};
@@ -49,10 +47,18 @@ fn perform<N: NpyStore>(
             let selection = Selection { name, index };
             set(bench, selection, Some(*operation), value, out)
         }
-        Command::Delete { name } => delete(bench, name, out),
+        Command::Delete { name } => {
+            bench.unbind(name)?;
+            out.set(b"ok del ", name.as_slice());
+            Ok(())
+        }
         Command::Ask(question) => reply(bench, question, out),
         Command::Save { name, file } => save(bench, store, name, file, out),
-        Command::Undo => undo(bench, out),
+        Command::Undo => {
+            bench.undo()?;
+            out.set(b"ok undo", b"");
+            Ok(())
+        }
     }
 }
 
@@ -91,22 +97,20 @@ pub fn read_line(alloc: Global, line: Line<'_>) -> Result<Option<Command>, Refus
     parse(alloc, bytes)
 }
 
-/// Answers a line. Returns whether its command was accepted, or `None` if the line asks for
-/// nothing.
-pub fn answer_read<N: NpyStore>(
+/// Carries out what a line asks for, and makes the reply. Returns whether the command was accepted,
+/// or `None` if the line asks for nothing.
+pub fn respond<N: NpyStore>(
     bench: &mut Bench,
     store: &mut N,
-    line: Line<'_>,
+    read: Result<Option<Command>, Refusal>,
     out: &mut ReplyText,
 ) -> Option<bool>
-    ensures answered { (replies : List Reply) × Tells replies result out.new
-        × AnswersMeaning (world bench.old.state (N.shelf store.old)) (meaning_of_read line.entry)
-        (world bench.new.state (N.shelf store.new)) replies }
-    ensures memory { (replies : List Reply) × Tells replies result out.new
-        × MayAnswerLine (world bench.old.state (N.shelf store.old)) (meaning_of_read line.entry)
+    ensures { (meaning : Meaning) → ReadsAs read meaning → (replies : List Reply)
+        × Tells replies result out.new
+        × MayAnswerLine (world bench.old.state (N.shelf store.old)) meaning
         (world bench.new.state (N.shelf store.new)) replies }
 {
-    match read_line(out.allocator(), line) {
+    match read {
         Ok(None) => {
             out.set(b"", b"");
             None
@@ -140,5 +144,6 @@ pub fn answer<N: NpyStore>(
         × MayAnswerLine (world bench.old.state (N.shelf store.old)) (meaning_of line.now)
         (world bench.new.state (N.shelf store.new)) replies }
 {
-    answer_read(bench, store, Line::Held(line), out)
+    let read = read_line(out.allocator(), Line::Held(line));
+    respond(bench, store, read, out)
 }

@@ -4,7 +4,6 @@
 
 mod ask;
 mod create;
-mod delete;
 mod engine;
 mod files;
 mod index_list;
@@ -14,7 +13,6 @@ mod replies;
 mod reply_text;
 pub mod runner;
 mod session;
-mod undo;
 mod update;
 mod view;
 mod write;

@@ -161,8 +161,7 @@ fn single(alloc: Global, scalar: &Scalar, literal: &Literal) -> Result<Owned, Re
     let block = filled(alloc, item.as_slice(), 1)?;
     drop(item);
     let shape = Shape::try_new(alloc, &[])?;
-    let owned = Owned::over(alloc, descr, &shape, MemoryOrder::C, block)?;
-    Ok(owned)
+    Ok(Owned::over(alloc, descr, &shape, MemoryOrder::C, block)?)
 }
 
 /// The type of a literal next to a scalar operand. Byte strings and records cannot be operands.

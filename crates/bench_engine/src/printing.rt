@@ -1,34 +1,16 @@
-//! `print X` in a run: the reply is sent while it is made.
-ghost use Rattle.std.specs.Prelude.{◌≡◌, IfOk, IfSome, OnErr};
-ghost use Rattle.bench_engine.specs.Clauses.{Sends, SendsPart, Reply, AsksToPrint, MayPrint, meaning_of_read};
+//! Replies in a run: that of `print X` is sent while it is made.
+ghost use Rattle.std.specs.Prelude.{◌≡◌, IfOk, OnErr};
+ghost use Rattle.bench_engine.specs.Clauses.{Sends, SendsPart, Reply, MayPrint, SendsAnswer, world, meaning_of_read};
 
-use crate::engine::read_line;
+use crate::engine::{read_line, respond};
 use crate::reply_text::ReplyText;
 use crate::session::Line;
 use array_print::{PrintFault, WriteFault};
 use elem_descr::{Name, Refusal};
 use name_store::Bench;
+use npy_files::NpyStore;
 use script_lang::{Command, Question, word};
-use std::alloc::Global;
 use std::io::Write;
-
-/// The name in `print X`, or `None` if the line asks for something else or cannot be read.
-pub fn asks_to_print(alloc: Global, line: Line<'_>) -> Option<Name>
-    ensures { IfSome result (λ name. AsksToPrint name (meaning_of_read line.entry)) }
-{
-    let Line::Held(bytes) = line else {
-        return None;
-    };
-    // All other lines are parsed only once.
-    let start = bytes.iter().position(|byte| *byte > b' ').unwrap_or(0);
-    if !bytes[start..].starts_with(b"print") {
-        return None;
-    }
-    match read_line(alloc, line) {
-        Ok(Some(Command::Ask(Question::Print { name }))) => Some(name),
-        _ => None,
-    }
-}
 
 /// Prints the array of a name, or refuses to, and sends the reply except for its end. Returns
 /// whether it was accepted. A refusal comes before the first byte.
@@ -56,5 +38,27 @@ pub fn print<W: Write>(
             out.set(word(Refusal::OutOfMemory), b"");
             Ok(false)
         }
+    }
+}
+
+/// Answers a line, and sends the reply except for its end. Returns whether its command was
+/// accepted, or `None` if the line asks for nothing.
+pub fn send_answer<W: Write, N: NpyStore>(
+    bench: &mut Bench,
+    writer: &mut W,
+    store: &mut N,
+    line: Line<'_>,
+    out: &mut ReplyText,
+) -> Result<Option<bool>, WriteFault>
+    ensures { SendsAnswer (world bench.old.state (N.shelf store.old))
+        (world bench.new.state (N.shelf store.new)) (meaning_of_read line.entry)
+        (W.contents writer.old) (W.contents writer.new) out.new result }
+{
+    match read_line(out.allocator(), line) {
+        Ok(Some(Command::Ask(Question::Print { name }))) => {
+            let accepted = print(bench, &name, writer, out)?;
+            Ok(Some(accepted))
+        }
+        read => Ok(respond(bench, store, read, out)),
     }
 }

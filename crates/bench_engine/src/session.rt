@@ -1,12 +1,10 @@
 //! What a run keeps between two reads: the state, and the line that is being read.
-ghost use Rattle.std.specs.Prelude.{◌≡◌, ◌≤◌, ◌<◌, ◌++◌, ◌∷◌, [], List, ℕ, length, OnOk, OnErr, vec_capacity, IfOk, false, ◌&&◌, nat_eq, not, ◌+◌, ◌^◌, Option};
-ghost use Rattle.bench_engine.specs.Words.{Appends, position};
+ghost use Rattle.std.specs.Prelude.{◌≡◌, ◌≤◌, ◌<◌, ◌++◌, [], List, ℕ, length, vec_capacity, IfOk, ◌&&◌, nat_eq, not, ◌+◌, ◌^◌, Option};
+ghost use Rattle.bench_engine.specs.Words.{position};
 
-use crate::engine::answer_read;
-use crate::printing::{asks_to_print, print};
+use crate::printing::send_answer;
 use crate::reply_text::ReplyText;
 use array_print::WriteFault;
-use elem_descr::Name;
 use name_store::Bench;
 use npy_files::NpyStore;
 use std::alloc::{AllocError, Global};
@@ -37,8 +35,7 @@ impl HeldLine {
 
     /// An empty line, with room for a longest line and a carriage return.
     pub fn new(alloc: Global) -> Result<HeldLine, AllocError>
-        ensures bytes { IfOk result (λ line. line.bytes.items ≡ []) }
-        ensures whole { IfOk result (λ line. line.is_long ≡ false) }
+        ensures { IfOk result (λ line. HoldsPiece line []) }
     {
         let bytes = Vec::with_capacity(alloc, MAX_LINE_LEN + 1)?;
         Ok(HeldLine {
@@ -81,8 +78,7 @@ impl HeldLine {
 
     /// Begins the next line.
     pub fn clear(&mut self)
-        ensures bytes { self.new.bytes.items ≡ [] }
-        ensures whole { self.new.is_long ≡ false }
+        ensures { HoldsPiece self.new [] }
     {
         self.bytes.clear();
         self.is_long = false;
@@ -110,56 +106,10 @@ pub struct Session {
 }
 
 impl Session {
-    ghost use Rattle.bench_engine.specs.Steps.{World, world};
-    ghost use Rattle.bench_engine.specs.Words.{StoreState};
-    ghost use Rattle.bench_engine.specs.Headline.{IsUnbroken, trimmed, meaning_of};
-    ghost use Rattle.bench_engine.specs.inside.Printing.{AsksToPrint};
-    ghost use Rattle.bench_engine.specs.Sessions.{HoldsPiece, Fed, FedInPart, Feeds, Ends, EndsInPart, IsNew};
-    ghost use Rattle.bench_engine.specs.inside.Sessions.{Told, ToldInPart, AnswersHeld};
-
-    /// Answers the line, and begins the next one. The reply is in `out`.
-    fn answer_line<N: NpyStore>(&mut self, store: &mut N) -> Option<bool>
-        requires few { self.old.accepted + self.old.refused < 2 ^ 50 }
-        ensures next { HoldsPiece self.new.line [] }
-        ensures few { self.new.accepted + self.new.refused
-            ≤ self.old.accepted + self.old.refused + 1 }
-        ensures answered { AnswersHeld (N.shelf store.old)
-            (N.shelf store.new) self.old self.new result }
-    {
-        let answered = answer_read(&mut self.bench, store, self.line.line(), &mut self.out);
-        self.line.clear();
-        match answered {
-            Some(true) => self.accepted += 1,
-            Some(false) => self.refused += 1,
-            None => {}
-        }
-        answered
-    }
-
-    /// Answers a line that asks to print the array of a name, begins the next line, and sends the
-    /// reply while it is made.
-    fn send_print<W: Write>(&mut self, writer: &mut W, name: &Name) -> Result<(), WriteFault>
-        requires few { self.old.accepted + self.old.refused < 2 ^ 50 }
-        requires asked { (piece : List ℕ) → HoldsPiece self.old.line piece
-            → AsksToPrint name.now (meaning_of (trimmed piece)) }
-        ensures next { HoldsPiece self.new.line [] }
-        ensures few { self.new.accepted + self.new.refused
-            ≤ self.old.accepted + self.old.refused + 1 }
-        ensures ok { OnOk result ((shelf : StoreState) →
-            Told (world self.old.bench.state shelf) (world self.new.bench.state shelf)
-            (W.contents writer.old) (W.contents writer.new) self.old self.new) }
-        ensures err { OnErr result ((shelf : StoreState) →
-            ToldInPart (world self.old.bench.state shelf) (world self.new.bench.state shelf)
-            (W.contents writer.old) (W.contents writer.new) self.old) }
-    {
-        self.line.clear();
-        if print(&self.bench, name, writer, &mut self.out)? {
-            self.accepted += 1;
-        } else {
-            self.refused += 1;
-        }
-        self.out.send_line(writer)
-    }
+    ghost use Rattle.bench_engine.specs.Steps.{world};
+    ghost use Rattle.bench_engine.specs.Headline.{IsUnbroken};
+    ghost use Rattle.bench_engine.specs.Sessions.{HoldsPiece, Feeds, Ends, IsNew};
+    ghost use Rattle.bench_engine.specs.inside.Sessions.{TellsHeld};
 
     /// Answers the line, begins the next one, and sends the reply.
     fn finish_line<W: Write, N: NpyStore>(
@@ -171,21 +121,21 @@ impl Session {
         ensures next { HoldsPiece self.new.line [] }
         ensures few { self.new.accepted + self.new.refused
             ≤ self.old.accepted + self.old.refused + 1 }
-        ensures ok { OnOk result
-            (Told (world self.old.bench.state (N.shelf store.old))
+        ensures told { TellsHeld (world self.old.bench.state (N.shelf store.old))
             (world self.new.bench.state (N.shelf store.new)) (W.contents writer.old)
-            (W.contents writer.new) self.old self.new) }
-        ensures err { OnErr result
-            (ToldInPart (world self.old.bench.state (N.shelf store.old))
-            (world self.new.bench.state (N.shelf store.new)) (W.contents writer.old)
-            (W.contents writer.new) self.old) }
+            (W.contents writer.new) self.old self.new result }
     {
-        let alloc = self.out.allocator();
-        if let Some(name) = asks_to_print(alloc, self.line.line()) {
-            return self.send_print(writer, &name);
-        }
-        if self.answer_line(store).is_none() {
+        let line = self.line.line();
+        let sent = send_answer(&mut self.bench, writer, store, line, &mut self.out);
+        self.line.clear();
+        let answered = sent?;
+        let Some(accepted) = answered else {
             return Ok(());
+        };
+        if accepted {
+            self.accepted += 1;
+        } else {
+            self.refused += 1;
         }
         self.out.send_line(writer)
     }
@@ -202,14 +152,9 @@ impl Session {
         ensures few { self.new.accepted + self.new.refused
             ≤ self.old.accepted + self.old.refused + length bytes.now }
         // The part of a line that is held is complete, or known to be too long.
-        ensures told { OnOk result ((held : List ℕ) → IsUnbroken held
-            → HoldsPiece self.old.line held →
-            Feeds (N.shelf store.old) (N.shelf store.new) (W.contents writer.old)
-            (W.contents writer.new) held bytes.now self.old self.new) }
-        ensures told_in_part { OnErr result ((held : List ℕ) → IsUnbroken held
-            → HoldsPiece self.old.line held →
-            FedInPart (world self.old.bench.state (N.shelf store.old)) (N.shelf store.new)
-            (W.contents writer.old) (W.contents writer.new) (held ++ bytes.now)) }
+        ensures told { (held : List ℕ) → IsUnbroken held → HoldsPiece self.old.line held
+            → Feeds (N.shelf store.old) (N.shelf store.new) (W.contents writer.old)
+            (W.contents writer.new) held bytes.now self.old self.new result }
     {
         let mut rest = bytes;
         while let Some(end) = newline(rest) {
@@ -249,14 +194,9 @@ impl Session {
             ≤ self.old.accepted + self.old.refused + 1 }
         // The next line has not begun.
         ensures next { HoldsPiece self.new.line [] }
-        ensures told { OnOk result ((held : List ℕ) → IsUnbroken held
-            → HoldsPiece self.old.line held →
-            Ends (N.shelf store.old) (N.shelf store.new) (W.contents writer.old)
-            (W.contents writer.new) held self.old self.new) }
-        ensures told_in_part { OnErr result ((held : List ℕ) → IsUnbroken held
-            → HoldsPiece self.old.line held →
-            EndsInPart (world self.old.bench.state (N.shelf store.old)) (N.shelf store.new)
-            (W.contents writer.old) (W.contents writer.new) held) }
+        ensures told { (held : List ℕ) → IsUnbroken held → HoldsPiece self.old.line held
+            → Ends (N.shelf store.old) (N.shelf store.new) (W.contents writer.old)
+            (W.contents writer.new) held self.old self.new result }
     {
         if self.line.is_empty() {
             return Ok(());

@@ -1,21 +1,14 @@
 -- What a session has done: after one line, after one turn, and when the script has ended.
 use Rattle.std.specs.Prelude.{◌≡◌, ◌<◌, ◌+◌, ℕ, Bool, true, false, List, [], ◌∷◌, ◌++◌, length, Option, Result, Ok, Err}
-use Rattle.bench_engine.specs.Words.{Appends, Consumes, IsAtEnd, StoreState}
+use Rattle.bench_engine.specs.Words.{Appends, Consumes, IsAtEnd}
+use Rattle.array_print.specs.declared.bands.WriteFault.{WriteFault}
 use Rattle.bench_engine.specs.declared.session.Session.{Session}
 use Rattle.bench_engine.specs.declared.runner.RunFault.{RunFault}
 use Rattle.bench_engine.specs.declared.runner.RunFault.TheVariants.{Read, Write, Memory}
-use Rattle.bench_engine.specs.Replies.{Reply, Tells}
+use Rattle.bench_engine.specs.Replies.{Reply}
 use Rattle.bench_engine.specs.Steps.{World, world}
 use Rattle.bench_engine.specs.Headline.{AnswersLine, trimmed, AreLines, output, reply_line, accepted_count, refused_count, Outside, first_world, AnswersWholeLines, AnswersFirstLines}
 use Rattle.bench_engine.specs.Sessions.{HoldsPiece, HasTold, Fed}
-
--- The held line is answered, `out` is the reply, and the session has counted it.
-pub record AnswersHeld (shelf shelf' : StoreState) (old new : Session) (answered : Option Bool) : Type 0 where
-  pub replies : List Reply
-  pub tells : Tells replies answered new.out
-  pub answers : (piece : List ℕ) → HoldsPiece old.line piece → AnswersLine (world old.bench.state shelf) (trimmed piece) (world new.bench.state shelf') replies
-  pub accepted : new.accepted ≡ old.accepted + accepted_count replies
-  pub refused : new.refused ≡ old.refused + refused_count replies
 
 -- The held line is answered, and the session has written and counted the reply.
 pub record Told (from to : World) (written written' : Option (List ℕ)) (old new : Session) : Type 0 where
@@ -34,6 +27,11 @@ pub record ToldInPart (from to : World) (written written' : Option (List ℕ)) (
   pub broken : reply_line reply ≡ gone ++ missing
   pub some_missing : 0 < length missing
   pub sent : Appends written written' gone
+
+-- the held line is answered, and the reply is written or cut short
+abbrev pub TellsHeld : World → World → Option (List ℕ) → Option (List ℕ) → Session → Session → Result (Unit {0}) WriteFault → Type 0
+TellsHeld from to written written' old new (Ok _) = Told from to written written' old new
+TellsHeld from to written written' old new (Err _) = ToldInPart from to written written' old
 
 -- The session was fed the bytes read so far.
 pub record Reading (depth : ℕ) (before after : Outside) (s : Session) : Type 0 where

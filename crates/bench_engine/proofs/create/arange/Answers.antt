@@ -43,7 +43,7 @@ over-requires-clause-whole c =
 
 pub returns : goal.returns
 returns c =
-    let shaped = c.in_ok-owned.ensures.shape ∙ range-shape c.in_ok-len.len _ c.in_ok-len.ensures.few c.in_ok-shape.ensures in
-    arange-done _ _ _ _ _ _ c.in_ok-block.block c.in_ok-owned.owned (given (goal.at.returns c).After-branch-len) c.in_ok-block.ensures.items
-    c.in_ok-owned.ensures.descr (shaped ∙ ap (λ n. n ∷ []) c.in_ok-len.ensures.count) c.in_ok-owned.ensures.block
-    (in-order c.in_ok-owned.owned _ _ c.in_ok-owned.ensures.descr c.in_ok-owned.ensures.shape c.in_ok-owned.ensures.order)
+    let shaped = c.in_ok-over.ensures.shape ∙ range-shape c.in_ok-len.len _ c.in_ok-len.ensures.few c.in_ok-shape.ensures in
+    arange-done _ _ _ _ _ _ c.in_ok-block.block c.in_ok-over.field-0 (given (goal.at.returns c).After-branch-len) c.in_ok-block.ensures.items
+    c.in_ok-over.ensures.descr (shaped ∙ ap (λ n. n ∷ []) c.in_ok-len.ensures.count) c.in_ok-over.ensures.block
+    (in-order c.in_ok-over.field-0 _ _ c.in_ok-over.ensures.descr c.in_ok-over.ensures.shape c.in_ok-over.ensures.order)

@@ -23,5 +23,5 @@ returns-in_err-block c =
 pub returns : goal.returns
 returns c =
     let many : length c.args.literals.now ≡ count c.in_ok-descr.shape = omega (arith, ap length c.as_slice-literals.ensures, c.items.ensures.value) in
-    array-done _ _ c.args.literals.now _ _ c.in_ok-block.block c.in_ok-owned.owned c.in_ok-descr.ensures.value many (rw c.as_slice-literals.ensures at c.in_ok-block.ensures.items)
-    c.in_ok-owned.ensures.descr c.in_ok-owned.ensures.shape c.in_ok-owned.ensures.block c.in_ok-owned.ensures.order
+    array-done _ _ c.args.literals.now _ _ c.in_ok-block.block c.in_ok-over.field-0 c.in_ok-descr.ensures.value many (rw c.as_slice-literals.ensures at c.in_ok-block.ensures.items)
+    c.in_ok-over.ensures.descr c.in_ok-over.ensures.shape c.in_ok-over.ensures.block c.in_ok-over.ensures.order

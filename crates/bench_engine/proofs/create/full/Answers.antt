@@ -20,6 +20,6 @@ returns c =
     let item = c.as_slice.result.now in
     let whole : length item ≡ item_size c.in_ok-descr.descr = omega (arith, ap length c.as_slice.ensures, c.in_ok-item.ensures.len) in
     let value = c.in_ok-item.ensures.value ∙ ap (λ bytes. Ok (decode_item c.in_ok-descr.descr bytes)) (sym c.as_slice.ensures) in
-    full-done _ _ _ _ _ item c.in_ok-block.block c.in_ok-owned.owned c.in_ok-descr.ensures.value value whole
+    full-done _ _ _ _ _ item c.in_ok-block.block c.in_ok-over.field-0 c.in_ok-descr.ensures.value value whole
     (subst (λ n. blocks (length item) n c.in_ok-block.block ≡ replicate n item) c.items.ensures.value c.in_ok-block.ensures.items)
-    c.in_ok-owned.ensures.descr c.in_ok-owned.ensures.shape c.in_ok-owned.ensures.block c.in_ok-owned.ensures.order
+    c.in_ok-over.ensures.descr c.in_ok-over.ensures.shape c.in_ok-over.ensures.block c.in_ok-over.ensures.order

@@ -24,10 +24,10 @@ pub over-requires-clause-small : goal.over-requires-clause-small
 over-requires-clause-small c = omega (arith, c.in_ok-block.ensures.whole, ap length c.as_slice.ensures, c.in_ok-item.ensures.len, c.size-size.ensures.value, c.size-size.ensures.within)
 
 pub returns-clause-shape : goal.returns-clause-shape
-returns-clause-shape c = c.in_ok-owned.ensures.shape ∙ sym (shape_of-same [] c.in_ok-shape.shape c.in_ok-shape.ensures)
+returns-clause-shape c = c.in_ok-over.ensures.shape ∙ sym (shape_of-same [] c.in_ok-shape.shape c.in_ok-shape.ensures)
 
 pub returns-clause-offsets : goal.returns-clause-offsets
 returns-clause-offsets c =
     let size = item_size (ScalarDescr c.args.scalar.now) in
     let none : size * 0 ≡ 0 = omega arith in
-    c.in_ok-owned.ensures.order ∙ ap (λ n. multiples size n) (ap count (sym (shape_of-same [] c.in_ok-shape.shape c.in_ok-shape.ensures))) ∙ ap (λ at. at ∷ []) none
+    c.in_ok-over.ensures.order ∙ ap (λ n. multiples size n) (ap count (sym (shape_of-same [] c.in_ok-shape.shape c.in_ok-shape.ensures))) ∙ ap (λ at. at ∷ []) none

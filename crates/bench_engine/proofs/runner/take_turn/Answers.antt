@@ -26,7 +26,7 @@ returns-in_err-count-clause-turned g c depth before reading =
 pub returns-in_err-end-clause-turned : goal.returns-in_err-end-clause-turned
 returns-in_err-end-clause-turned g c depth before reading =
     let p = err_from_is_err_and c.from_residual-in_err-end.result c.from_residual-in_err-end.ensures.1 in
-    let cut = c.in_err-end.ensures.told_in_part reading.fed.rest reading.fed.splits.rest_unbroken reading.fed.held in
+    let cut = c.in_err-end.ensures.told reading.fed.rest reading.fed.splits.rest_unbroken reading.fed.held in
     let bytes = rw c.in_ok-count.ensures.ok_part at c.read_some.ensures.bytes in
     rw (p.1, p.2) (first-lines depth before _ reading.input (map trimmed reading.fed.pieces ++ cut.0)
     (consumes_nothing _ _ _ reading.input _ c.in_ok-count.count c.if-count-eq0.true reading.read bytes.1)
@@ -50,7 +50,7 @@ pub returns-in_err-feed-clause-turned : goal.returns-in_err-feed-clause-turned
 returns-in_err-feed-clause-turned g c depth before reading =
     let p = err_from_is_err_and c.from_residual-in_err-feed.result c.from_residual-in_err-feed.ensures.1 in
     let piece = take c.in_ok-count.count c.read_some.new.chunk in
-    let cut = c.in_err-feed.ensures.told_in_part reading.fed.rest reading.fed.splits.rest_unbroken reading.fed.held in
+    let cut = c.in_err-feed.ensures.told reading.fed.rest reading.fed.splits.rest_unbroken reading.fed.held in
     let bytes = rw c.in_ok-count.ensures.ok_part at c.read_some.ensures.bytes in
     rw (p.1, p.2) (first-lines depth before _ (reading.input ++ piece) (map trimmed reading.fed.pieces ++ cut.0)
     (consumes_then _ _ _ reading.input _ reading.read bytes.1)

@@ -1,5 +1,5 @@
 use Rattle.std.proofs.Common.{◌≡◌, ◌&&◌, ◌∷◌, is_some, ℕ, true, false, List, Option, Some, None, Ok, Err, refl, sym, inr}
-use Rattle.bench_engine.proofs.Words.{list_all, UnknownName, Viewing, State, find_array, is_bound, has_room_for, Array, err_from_is_err_and, and_parts, Choice, ViewOrCopy, seen, names_in_viewing, view_outcome, bound_seen, Shows, IsSeen}
+use Rattle.bench_engine.proofs.Words.{list_all, UnknownName, Viewing, State, find_array, is_bound, has_room_for, Array, err_from_is_err_and, and_parts, Choice, ViewOrCopy, seen, names_in_viewing, view_outcome, bound_seen, IsSeen}
 use Rattle.bench_engine.proofs.Views.{refused-or, may-bind-seen, seen-answers}
 use Rattle.bench_engine.proofs.Answered.{met}
 use Rattle.bench_engine.proofs.view.view.Goals.{In_ok-array}

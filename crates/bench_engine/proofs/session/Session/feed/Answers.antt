@@ -14,8 +14,8 @@ loop-end-init g c = record {
   );
 }
 
-pub returns-in_err-finish_line-clause-told_in_part : goal.returns-in_err-finish_line-clause-told_in_part
-returns-in_err-finish_line-clause-told_in_part g c =
+pub returns-in_err-finish_line-clause-told : goal.returns-in_err-finish_line-clause-told
+returns-in_err-finish_line-clause-told g c =
     let p = err_from_is_err_and c.from_residual.result c.from_residual.ensures.1 in
     let so_far = c.loop-end.invariant.fed in
     let rest = c.loop-end.rest.now in
@@ -24,7 +24,7 @@ returns-in_err-finish_line-clause-told_in_part g c =
     let parts = newline_in_rest c.args.bytes.now so_far.0 rest end so_far.1 at.0 at.2 in
     rw p.1 (λ held one holds.
     fed_in_part_along _ _ _ _ _ _ (joined held so_far.0 (take end rest) (10 ∷ drop (end + 1) rest) c.args.bytes.now parts)
-    (cut-newline _ _ _ _ _ _ _ _ _ ((held ++ so_far.0) ++ take end rest) (drop (end + 1) rest) _ c.in_err-finish_line.ensures.err
+    (cut-newline _ _ _ _ _ _ _ _ _ ((held ++ so_far.0) ++ take end rest) (drop (end + 1) rest) _ c.in_err-finish_line.ensures.told
     (fed-piece _ _ _ _ _ _ (held ++ so_far.0) (take end rest) c.loop-end.self _ at.1 refl refl c.hold.ensures (so_far.2 held one holds))))
   where
     joined : (read taken line more bytes : List ℕ) → bytes ≡ (taken ++ line) ++ more → ((read ++ taken) ++ line) ++ more ≡ read ++ bytes
@@ -44,7 +44,7 @@ loop-end-preserved g c =
         (so_far.0 ++ take end rest) ++ 10 ∷ [],
         parts ∙ sym (append_assoc (so_far.0 ++ take end rest) (10 ∷ []) (drop (end + 1) rest)) ∙ ap (λ r. ((so_far.0 ++ take end rest) ++ 10 ∷ []) ++ r) (sym left),
         λ held one holds. fed_along _ _ _ _ _ _ _ _ _ (regrouped held so_far.0 (take end rest))
-            (fed-newline _ _ _ _ _ _ _ _ ((held ++ so_far.0) ++ take end rest) _ _ c.finish_line.ensures.next c.in_ok-finish_line.ensures.ok
+            (fed-newline _ _ _ _ _ _ _ _ ((held ++ so_far.0) ++ take end rest) _ _ c.finish_line.ensures.next c.in_ok-finish_line.ensures.told
             (fed-piece _ _ _ _ _ _ (held ++ so_far.0) (take end rest) c.loop-end.self _ at.1 refl refl c.hold.ensures (so_far.2 held one holds))),
       );
     }

@@ -1,14 +1,30 @@
-use Rattle.std.proofs.Common.{sym}
-use Rattle.bench_engine.proofs.Words.{on_ok_weaker, on_err_weaker}
-use Rattle.bench_engine.proofs.Feeding.{told-in-part}
+use Rattle.std.proofs.Common.{◌++◌, ◌∷◌, ◌∙◌, [], ap, sym, refl, subst, true, false, length-append, arith}
+use Rattle.bench_engine.proofs.Words.{err_from_is_err_and, appends_nothing, State, world, AnswersMeaning, meaning_of_read, Session}
+use Rattle.bench_engine.proofs.Feeding.{told-none, tells-held, cut-sent}
+use Rattle.bench_engine.proofs.session.Session.finish_line.Goals.{then-accepted, else-accepted}
 use Rattle.bench_engine.proofs.session.Session.finish_line.Goals as goal
 
-pub returns-in-Some-clause-ok : goal.returns-in-Some-clause-ok
-returns-in-Some-clause-ok g c = on_ok_weaker c.send_print.result (λ told. told (g.N.NpyStore.shelf c.args.store.now)) c.send_print.ensures.ok
+pub returns-in_err-answered-clause-told : goal.returns-in_err-answered-clause-told
+returns-in_err-answered-clause-told g c =
+    let p = err_from_is_err_and c.from_residual.result c.from_residual.ensures.1 in
+    let a = rw c.in_err-answered.was at c.send_answer-sent.ensures in
+    rw p.1 (cut-sent _ _ _ c.args.self.now c.line-line.ensures _ _ _ a.2.0 a.0 a.1 a.2.1 ([], a.2.0 ++ 10 ∷ [], refl, omega (arith, length-append a.2.0 (10 ∷ [])), appends_nothing _))
 
-pub returns-in-Some-clause-err : goal.returns-in-Some-clause-err
-returns-in-Some-clause-err g c = on_err_weaker c.send_print.result (λ told. told (g.N.NpyStore.shelf c.args.store.now)) c.send_print.ensures.err
+pub returns-in_default-clause-told : goal.returns-in_default-clause-told
+returns-in_default-clause-told g c =
+    let a = rw (c.in_ok-answered.was, c.in_default.is) at c.send_answer-sent.ensures in
+    told-none _ _ _ c.args.self.now c.line-line.ensures _ _ _ a.0 a.1 refl refl
 
-pub returns-clause-err : goal.returns-clause-err
-returns-clause-err g c =
-    on_err_weaker c.send_line.result (λ part. told-in-part _ _ c.args.self.now c.answer_line.new.self c.answer_line.result _ _ (sym c.if-is_none.ensures) c.answer_line.ensures.answered part) c.send_line.ensures.err
+pub returns-clause-told : goal.returns-clause-told
+returns-clause-told g c =
+    let a = rw (c.in_ok-answered.was, c.in-Some.is) at c.send_answer-sent.ensures in
+    elim c.if-accepted.branch [
+      | then-accepted w ↦
+          let answers = subst (λ (s : State). AnswersMeaning (world c.args.self.now.bench.state (g.N.NpyStore.shelf c.args.store.now)) (meaning_of_read c.line-line.result) (world s (g.N.NpyStore.shelf c.send_answer-sent.new.store)) (a.0 ∷ [])) (sym (ap (λ (s : Session). s.bench.state) w.self-is)) a.1 in
+          tells-held _ _ _ c.args.self.now c.line-line.ensures _ _ _ _ _ a.0 true c.send_line.result answers (a.2 ∙ w.if-accepted.true) a.3 (rw w.self-is at c.send_line.ensures.ok) (rw w.self-is at c.send_line.ensures.err)
+          (omega (arith, ap (λ (s : Session). s.accepted) w.self-is)) (omega (arith, ap (λ (s : Session). s.refused) w.self-is))
+      | else-accepted w ↦
+          let answers = subst (λ (s : State). AnswersMeaning (world c.args.self.now.bench.state (g.N.NpyStore.shelf c.args.store.now)) (meaning_of_read c.line-line.result) (world s (g.N.NpyStore.shelf c.send_answer-sent.new.store)) (a.0 ∷ [])) (sym (ap (λ (s : Session). s.bench.state) w.self-is)) a.1 in
+          tells-held _ _ _ c.args.self.now c.line-line.ensures _ _ _ _ _ a.0 false c.send_line.result answers (a.2 ∙ w.if-accepted.false) a.3 (rw w.self-is at c.send_line.ensures.ok) (rw w.self-is at c.send_line.ensures.err)
+          (omega (arith, ap (λ (s : Session). s.accepted) w.self-is)) (omega (arith, ap (λ (s : Session). s.refused) w.self-is))
+    ]
