@@ -20,29 +20,25 @@ offsets-at l = refl
 
 -- The number before the zeros is unchanged.
 pub get_or-padded_take : (shape index : List ℕ) (j : ℕ) → IsIndex shape index → j < length shape → get_or (zero_filled shape (take (suc j) index)) j 0 ≡ get_or index j 0
-get_or-padded_take [] index j in' below = absurd (omega arith)
-get_or-padded_take (n ∷ shape) [] j in' below = absurd in'
 get_or-padded_take (n ∷ shape) (k ∷ index) zero in' below = refl
 get_or-padded_take (n ∷ shape) (k ∷ index) (suc j) in' below = get_or-padded_take shape index j in'.1 (omega arith)
+get_or-padded_take _ _ j in' below = absurd (omega arith)
 
 pub set-padded_take : (shape index : List ℕ) (j x : ℕ) → IsIndex shape index → j < length shape → set (zero_filled shape (take (suc j) index)) j x ≡ zero_filled shape (take j index ++ x ∷ [])
-set-padded_take [] index j x in' below = absurd (omega arith)
-set-padded_take (n ∷ shape) [] j x in' below = absurd in'
 set-padded_take (n ∷ shape) (k ∷ index) zero x in' below = refl
 set-padded_take (n ∷ shape) (k ∷ index) (suc j) x in' below = ap (λ i. k ∷ i) (set-padded_take shape index j x in'.1 (omega arith))
+set-padded_take _ _ j x in' below = absurd (omega arith)
 
 pub set-padded_zero : (shape index : List ℕ) (j : ℕ) → IsIndex shape index → j < length shape → set (zero_filled shape (take (suc j) index)) j 0 ≡ zero_filled shape (take j index)
-set-padded_zero [] index j in' below = absurd (omega arith)
-set-padded_zero (n ∷ shape) [] j in' below = absurd in'
 set-padded_zero (n ∷ shape) (k ∷ index) zero in' below = refl
 set-padded_zero (n ∷ shape) (k ∷ index) (suc j) in' below = ap (λ i. k ∷ i) (set-padded_zero shape index j in'.1 (omega arith))
+set-padded_zero _ _ j in' below = absurd (omega arith)
 
 -- Filling a whole index with zeros changes nothing.
 pub padded-all : (shape index : List ℕ) → IsIndex shape index → zero_filled shape index ≡ index
 padded-all [] [] in' = refl
-padded-all [] (k ∷ index) in' = absurd in'
-padded-all (n ∷ shape) [] in' = absurd in'
 padded-all (n ∷ shape) (k ∷ index) in' = ap (λ i. k ∷ i) (padded-all shape index in'.1)
+padded-all _ _ in' = absurd in'
 
 -- the state before the loop looks at the axes below `a`: the axes from `a` on were at their last numbers and are at 0
 -- now

@@ -9,11 +9,10 @@ pub record GoesUp (item : ℕ) (addresses : List ℕ) : Type 0 where
   pub next : (k : ℕ) → suc k < length addresses → get_or addresses (suc k) 0 ≡ get_or addresses k 0 + item
 
 next_from_test : (item : ℕ) (addresses : List ℕ) (k : ℕ) → is_c_contiguous item addresses ≡ true → suc k < length addresses → get_or addresses (suc k) 0 ≡ get_or addresses k 0 + item
-next_from_test item [] k test below = absurd (omega arith)
-next_from_test item (a ∷ []) k test below = absurd (omega arith)
 next_from_test item (a ∷ b ∷ addresses) zero test below = eqb-true b (a + item) (and_parts (b == a + item) (is_c_contiguous item (b ∷ addresses)) test).0
 next_from_test item (a ∷ b ∷ addresses) (suc k) test below =
     next_from_test item (b ∷ addresses) k (and_parts (b == a + item) (is_c_contiguous item (b ∷ addresses)) test).1 (omega arith)
+next_from_test item _ k test below = absurd (omega arith)
 
 pub GoesUp-from_test : (item : ℕ) (addresses : List ℕ) → is_c_contiguous item addresses ≡ true → GoesUp item addresses
 GoesUp-from_test item addresses test = record { next = λ k below. next_from_test item addresses k test below }
@@ -50,12 +49,9 @@ axis_part item c (suc k) n r stride below steps =
 
 pub dot-steps : (item : ℕ) (strides : List ℤ) (shape index : List ℕ) → length strides ≡ length shape → StepsOver item strides shape → IsIndex shape index → dot strides index ≡ pos (item * rank shape index)
 dot-steps item [] [] [] same steps in' = ap pos (sym (mul-zero item))
-dot-steps item [] [] (k ∷ index) same steps in' = absurd in'
-dot-steps item [] (n ∷ shape) index same steps in' = absurd (omega arith)
-dot-steps item (s ∷ strides) [] index same steps in' = absurd (omega arith)
-dot-steps item (s ∷ strides) (n ∷ shape) [] same steps in' = absurd in'
 dot-steps item (s ∷ strides) (n ∷ shape) (k ∷ index) same steps in' =
     ap (λ z. s *ℤ pos k +ℤ z) (dot-steps item strides shape index (omega arith) steps.1 in'.1) ∙ axis_part item (count shape) k n (rank shape index) s in'.0 steps.0
+dot-steps item _ _ _ same steps in' = absurd (omega arith)
 
 -- If the axes after axis k have such strides and axis k does too, so do the axes from k on.
 pub StepsOver-more : (item : ℕ) (strides : List ℤ) (shape : List ℕ) (k : ℕ) → length strides ≡ length shape → k < length shape → (2 ≤ get_or shape k 0 → get_or strides k (pos 0) ≡ pos (count (drop (k + 1) shape) * item)) → StepsOver item (drop (k + 1) strides) (drop (k + 1) shape) → StepsOver item (drop k strides) (drop k shape)

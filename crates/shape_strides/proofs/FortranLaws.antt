@@ -9,20 +9,18 @@ use Rattle.shape_strides.proofs.ContiguityLaws.{StepsOver, product-bound, is_c-e
 
 pub dot-append : (strides strides' : List ℤ) (index index' : List ℕ) → length strides ≡ length index → dot (strides ++ strides') (index ++ index') ≡ dot strides index +ℤ dot strides' index'
 dot-append [] strides' [] index' same = sym (+ℤ_idl (dot strides' index'))
-dot-append [] strides' (k ∷ index) index' same = absurd (omega arith)
-dot-append (s ∷ strides) strides' [] index' same = absurd (omega arith)
 dot-append (s ∷ strides) strides' (k ∷ index) index' same =
     ap (λ z. s *ℤ pos k +ℤ z) (dot-append strides strides' index index' (omega arith)) ∙ sym (+ℤ_assoc (s *ℤ pos k) (dot strides index) (dot strides' index'))
+dot-append _ strides' _ index' same = absurd (omega arith)
 
 turned_sum : (a b : ℤ) → a +ℤ (b +ℤ pos 0) ≡ b +ℤ a
 turned_sum a b = omega (arith, ints)
 
 pub dot-reverse : (strides : List ℤ) (index : List ℕ) → length strides ≡ length index → dot (reverse strides) (reverse index) ≡ dot strides index
 dot-reverse [] [] same = refl
-dot-reverse [] (k ∷ index) same = absurd (omega arith)
-dot-reverse (s ∷ strides) [] same = absurd (omega arith)
 dot-reverse (s ∷ strides) (k ∷ index) same =
     rw (reverse-cons s strides, reverse-cons k index) (dot-append (reverse strides) (s ∷ []) (reverse index) (k ∷ []) (omega (arith, length-reverse strides, length-reverse index)) ∙ turned_sum (dot (reverse strides) (reverse index)) (s *ℤ pos k) ∙ ap (λ z. s *ℤ pos k +ℤ z) (dot-reverse strides index (omega arith)))
+dot-reverse _ _ same = absurd (omega arith)
 
 -- ---- a layout with its axes reversed
 

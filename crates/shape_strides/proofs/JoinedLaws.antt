@@ -55,14 +55,13 @@ addresses-joined at (axis ∷ axes) =
 
 pub addresses-indexes : (at : ℤ) (strides : List ℤ) (shape : List ℕ) → length strides ≡ length shape → addresses at (strided_axes strides shape) ≡ map (λ index. at +ℤ dot strides index) (indexes shape)
 addresses-indexes at [] [] same = ap (λ z. z ∷ []) (sym (+ℤ_idr at))
-addresses-indexes at [] (n ∷ shape) same = absurd (omega arith)
-addresses-indexes at (s ∷ strides) [] same = absurd (omega arith)
 addresses-indexes at (s ∷ strides) (n ∷ shape) same =
     let later : ℤ → List ℤ = λ next. addresses next (strided_axes strides shape) in
     let whole : List ℕ → ℤ = λ index. at +ℤ dot (s ∷ strides) index in
     let one : (k : ℕ) → later (at +ℤ s *ℤ pos k) ≡ map whole (map (λ i. k ∷ i) (indexes shape)) = λ k.
     addresses-indexes (at +ℤ s *ℤ pos k) strides shape (omega arith) ∙ map_same (λ i. (at +ℤ s *ℤ pos k) +ℤ dot strides i) (λ i. whole (k ∷ i)) (λ i. +ℤ_assoc at (s *ℤ pos k) (dot strides i)) (indexes shape) ∙ sym (map-map whole (λ i. k ∷ i) (indexes shape)) in
     flat_map-map later (λ k. at +ℤ s *ℤ pos k) (range_with_len 0 n) ∙ flat_map_same (λ k. later (at +ℤ s *ℤ pos k)) (λ k. map whole (map (λ i. k ∷ i) (indexes shape))) one (range_with_len 0 n) ∙ sym (map-flat_map whole (λ k. map (λ i. k ∷ i) (indexes shape)) (range_with_len 0 n))
+addresses-indexes at _ _ same = absurd (omega arith)
 
 -- The addresses are the same whether the axes are joined or not.
 pub offsets-addresses : (l : Layout) → offsets l ≡ map natural (addresses (pos l.offset) (strided_axes l.strides l.shape))

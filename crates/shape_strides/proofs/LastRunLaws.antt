@@ -20,9 +20,6 @@ join-before axis (inner ∷ front) last some =
     ∙ cond_both (leads_over axis inner) (merged ∷ front) (axis ∷ inner ∷ front) (λ made. cond (leads_over axis inner) (merged ∷ (front ++ last ∷ [])) (axis ∷ whole) ≡ made ++ last ∷ []) (λ over. cond-true (leads_over axis inner) (merged ∷ (front ++ last ∷ [])) (axis ∷ whole) over) (λ apart. cond-false (leads_over axis inner) (merged ∷ (front ++ last ∷ [])) (axis ∷ whole) apart))
 
 last_split : (strides : List ℤ) (lengths : List ℕ) (j : ℕ) (along : StridedAxis) → length strides ≡ length lengths → j < length lengths → 2 ≤ get_or lengths j 0 → all_joined (strided_axes (drop j strides) (drop j lengths)) ≡ record { len = get_or lengths j 0; stride = get_or strides j (pos 0) } ∷ along ∷ [] → all_joined (strided_axes strides lengths) ≡ all_joined (strided_axes (take (suc j) strides) (take (suc j) lengths)) ++ along ∷ []
-last_split [] [] j along same below long two = absurd (omega arith)
-last_split [] (n ∷ lengths) j along same below long two = absurd (omega arith)
-last_split (s ∷ strides) [] j along same below long two = absurd (omega arith)
 last_split (s ∷ strides) (n ∷ lengths) zero along same below long two =
     let axis : StridedAxis = record { len = n; stride = s } in
     two ∙ ap (λ made. made ++ along ∷ []) (sym (cond-false (n == 1) [] (axis ∷ []) (ne_eqb n 1 (λ is. omega arith))))
@@ -32,6 +29,7 @@ last_split (s ∷ strides) (n ∷ lengths) (suc j) along same below long two =
     let front = all_joined (strided_axes (take (suc j) strides) (take (suc j) lengths)) in
     let more = two_of_later strides lengths j (omega arith) (omega (arith, ap length two)) in
     ap (join_outside axis) later ∙ join-before axis front along (omega (arith, more, ap length later, length-append front (along ∷ [])))
+last_split _ _ j along same below long two = absurd (omega arith)
 
 -- ---- the runs
 
@@ -83,10 +81,9 @@ count-split (n ∷ shape) (suc k) = mul_assoc n (count (take k shape)) (count (d
 
 padded-in : (shape index : List ℕ) (k : ℕ) → 0 < count shape → IsIndex (take k shape) index → IsIndex shape (zero_filled shape index)
 padded-in shape [] zero some in' = IsIndex-first shape some
-padded-in shape (i ∷ index) zero some in' = absurd in'
 padded-in [] index (suc k) some in' = tt
-padded-in (n ∷ shape) [] (suc k) some in' = absurd in'
 padded-in (n ∷ shape) (i ∷ index) (suc k) some in' = let both = factors_pos n (count shape) some in (in'.0, padded-in shape index k both.1 in'.1)
+padded-in _ _ _ some in' = absurd in'
 
 dot-take : (strides : List ℤ) (index : List ℕ) (k : ℕ) → length index ≤ k → dot (take k strides) index ≡ dot strides index
 dot-take strides [] zero short = sym (dot-nil strides)

@@ -16,12 +16,11 @@ LieWithin-weaker shape strides offset len len' item item' more less lie = record
 
 pub dot-c_strides : (item : ℕ) (shape index : List ℕ) → IsIndex shape index → dot (c_strides item shape) index ≡ pos (item * rank shape index)
 dot-c_strides item [] [] in' = ap pos (sym (mul-zero item))
-dot-c_strides item [] (k ∷ index) in' = absurd in'
-dot-c_strides item (n ∷ shape) [] in' = absurd in'
 dot-c_strides item (n ∷ shape) (k ∷ index) in' =
     let later = dot-c_strides item shape index in'.1 in
     let total : count shape * item * k + item * rank shape index ≡ item * (k * count shape + rank shape index) = grind arith in
     ap (λ z. pos (count shape * item * k) +ℤ z) later ∙ ap pos total
+dot-c_strides item _ _ in' = absurd in'
 
 -- Each address is the rank times the size of an item.
 pub record StandsInCOrder (shape : List ℕ) (strides : List ℤ) (offset item : ℕ) : Type 0 where

@@ -213,16 +213,13 @@ cut-all : (n : ℕ) (run : Run) → run.count ≡ n → cut n run [] ≡ []
 cut-all n run all = cond-true (run.count == n) [] (run_after n run ∷ []) (eq-eqb run.count n all)
 
 paired-alone : (most : ℕ) (xs ys : List Run) → length xs ≡ 1 → length ys ≡ 1 → AreEven most xs ys → length (paired most xs ys) ≡ 1
-paired-alone most [] ys one one' even = absurd (omega arith)
-paired-alone most (x ∷ xs) [] one one' even = absurd (omega arith)
-paired-alone most (x ∷ x' ∷ xs) (y ∷ ys) one one' even = absurd (omega arith)
-paired-alone most (x ∷ []) (y ∷ y' ∷ ys) one one' even = absurd (omega arith)
 paired-alone zero (x ∷ []) (y ∷ []) one one' even = absurd (omega (arith, even.few, length-first x [], even.whole.0.some))
 paired-alone (suc most) (x ∷ []) (y ∷ []) one one' even =
     let same : x.count ≡ y.count = omega (arith, even.same, length-first x [], length-first y []) in
     let first = cut-all (min x.count y.count) x (omega arith) in
     let second = cut-all (min x.count y.count) y (omega arith) in
     ap (λ xs. suc (length (paired most xs (cut (min x.count y.count) y [])))) first ∙ ap (λ ys. suc (length (paired most [] ys))) second ∙ ap (λ ps. suc (length ps)) (pairs-start most [])
+paired-alone most _ _ one one' even = absurd (omega arith)
 
 pub run_pairs-alone : (l m : Layout) (step step' : ℤ) → count l.shape ≡ count m.shape → count l.shape ≤ max_items → 0 < count l.shape → GoesBy step (offsets l) → GoesBy step' (offsets m) → length (run_pairs l m) ≡ 1
 unfolding run_pairs

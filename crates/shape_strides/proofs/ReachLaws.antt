@@ -19,28 +19,24 @@ axis_low (negsuc a) k n below =
 pub dot_high : (strides : List ℤ) (shape index : List ℕ) → IsIndex shape index → dot strides index ≤ℤ pos (reach_above strides shape)
 dot_high [] shape index in' = omega (arith, ints)
 dot_high (s ∷ strides) [] [] in' = omega (arith, ints)
-dot_high (s ∷ strides) [] (k ∷ index) in' = absurd in'
-dot_high (s ∷ strides) (n ∷ shape) [] in' = absurd in'
 dot_high (s ∷ strides) (n ∷ shape) (k ∷ index) in' =
     let first = axis_high s k n in'.0 in
     let later = dot_high strides shape index in'.1 in
     omega (arith, ints)
+dot_high (s ∷ strides) _ _ in' = absurd in'
 
 pub dot_low : (strides : List ℤ) (shape index : List ℕ) → IsIndex shape index → pos 0 ≤ℤ (pos (reach_below strides shape) +ℤ dot strides index)
 dot_low [] shape index in' = omega (arith, ints)
 dot_low (s ∷ strides) [] [] in' = omega (arith, ints)
-dot_low (s ∷ strides) [] (k ∷ index) in' = absurd in'
-dot_low (s ∷ strides) (n ∷ shape) [] in' = absurd in'
 dot_low (s ∷ strides) (n ∷ shape) (k ∷ index) in' =
     let first = axis_low s k n in'.0 in
     let later = dot_low strides shape index in'.1 in
     omega (arith, ints)
+dot_low (s ∷ strides) _ _ in' = absurd in'
 
 -- There is an index that reaches this far up.
 pub top_of : (strides : List ℤ) (shape : List ℕ) → length strides ≡ length shape → 0 < count shape → (index : List ℕ) × IsIndex shape index × (dot strides index ≡ pos (reach_above strides shape))
 top_of [] [] same some = ([], tt, refl)
-top_of [] (n ∷ shape) same some = absurd (omega arith)
-top_of (s ∷ strides) [] same some = absurd (omega arith)
 top_of (pos a ∷ strides) (n ∷ shape) same some =
     let both = factors_pos n (count shape) some in
     let rest = top_of strides shape (omega arith) both.1 in
@@ -51,12 +47,11 @@ top_of (negsuc a ∷ strides) (n ∷ shape) same some =
     let none = *ℤ-zero (negsuc a) in
     let is = rest.2 in
     (0 ∷ rest.0, (both.0, rest.1), omega (arith, ints, zero-mul (n - 1)))
+top_of _ _ same some = absurd (omega arith)
 
 -- There is an index that reaches this far down.
 pub bottom_of : (strides : List ℤ) (shape : List ℕ) → length strides ≡ length shape → 0 < count shape → (index : List ℕ) × IsIndex shape index × (pos (reach_below strides shape) +ℤ dot strides index ≡ pos 0)
 bottom_of [] [] same some = ([], tt, refl)
-bottom_of [] (n ∷ shape) same some = absurd (omega arith)
-bottom_of (s ∷ strides) [] same some = absurd (omega arith)
 bottom_of (pos zero ∷ strides) (n ∷ shape) same some =
     let both = factors_pos n (count shape) some in
     let rest = bottom_of strides shape (omega arith) both.1 in
@@ -74,6 +69,7 @@ bottom_of (negsuc a ∷ strides) (n ∷ shape) same some =
     let first = negsuc-*ℤ-pos a (n - 1) in
     let is = rest.2 in
     ((n - 1) ∷ rest.0, (omega arith, rest.1), omega (arith, ints))
+bottom_of _ _ same some = absurd (omega arith)
 
 pub LieWithin-from_reach : (shape : List ℕ) (strides : List ℤ) (offset len item : ℕ) → reach_below strides shape ≤ offset → offset + reach_above strides shape + item ≤ len → LieWithin shape strides offset len item
 LieWithin-from_reach shape strides offset len item low high = record {

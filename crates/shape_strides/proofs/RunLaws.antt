@@ -146,20 +146,18 @@ after_numbers at step (suc k) z zs by =
 
 -- The step between the first two numbers is `step`.
 first_step : (at step s : ℤ) (m : ℕ) (zs : List ℤ) → 2 ≤ m → StepsBy step (numbers_from at s m ++ zs) → s ≡ step
-first_step at step s zero zs two by = absurd (omega arith)
-first_step at step s (suc zero) zs two by = absurd (omega arith)
 first_step at step s (suc (suc m)) zs two by =
     let start = numbers-suc at s (suc m) ∙ ap (λ ys. at ∷ ys) (numbers-suc (at +ℤ s) s m) in
     let first = (subst (λ xs. StepsBy step (xs ++ zs)) start by).0 in
     omega (arith, ints, first)
+first_step at step s _ zs two by = absurd (omega arith)
 
 -- the first two blocks of an outer axis
 blocks : (f : ℤ → List ℤ) (at s : ℤ) (n : ℕ) → 2 ≤ n → (zs : List ℤ) × (flat_map f (numbers_from at s n) ≡ f at ++ (f (at +ℤ s) ++ zs))
-blocks f at s zero two = absurd (omega arith)
-blocks f at s (suc zero) two = absurd (omega arith)
 blocks f at s (suc (suc n)) two =
     let start = numbers-suc at s (suc n) ∙ ap (λ ys. at ∷ ys) (numbers-suc (at +ℤ s) s n) in
     (flat_map f (numbers_from ((at +ℤ s) +ℤ s) s n), ap (flat_map f) start)
+blocks f at s _ two = absurd (omega arith)
 
 leads : (at t s : ℤ) (n : ℕ) → at +ℤ t ≡ at +ℤ s *ℤ pos n → t ≡ s *ℤ pos n
 leads at t s n same = let z = s *ℤ pos n in let here : at +ℤ t ≡ at +ℤ z = same in omega (arith, ints, here)

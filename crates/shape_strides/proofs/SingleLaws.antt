@@ -20,9 +20,8 @@ grows axis (inner ∷ axes) two =
 pub two_of_later : (strides : List ℤ) (shape : List ℕ) (j : ℕ) → length strides ≡ length shape → 2 ≤ length (all_joined (strided_axes (drop j strides) (drop j shape))) → 2 ≤ length (all_joined (strided_axes strides shape))
 two_of_later strides shape zero same two = two
 two_of_later [] [] (suc j) same two = two
-two_of_later [] (n ∷ shape) (suc j) same two = absurd (omega (arith, same))
-two_of_later (s ∷ strides) [] (suc j) same two = absurd (omega (arith, same))
 two_of_later (s ∷ strides) (n ∷ shape) (suc j) same two = grows (record { len = n; stride = s }) (all_joined (strided_axes strides shape)) (two_of_later strides shape j (omega (arith, same)) two)
+two_of_later _ _ (suc j) same two = absurd (omega (arith, same))
 
 pub stay_two : (l : Layout) (strides : List ℤ) (lengths : List ℕ) (j : ℕ) (outer inner : StridedAxis) → strides ≡ l.strides → lengths ≡ l.shape → length strides ≡ length lengths → all_joined (strided_axes (drop j strides) (drop j lengths)) ≡ outer ∷ inner ∷ [] → 2 ≤ length (all_joined (strided_axes l.strides l.shape))
 stay_two l strides lengths j outer inner are are' same two =

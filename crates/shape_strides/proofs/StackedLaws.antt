@@ -107,12 +107,6 @@ differ_later P s own all a b r x y d first second some =
 -- Two indexes are equal, or their sums differ in this way.
 pub same_or_differ : (P : Axis → Type 0) (strides : List ℤ) (shape i j : List ℕ) → length strides ≡ length shape → All P (axes strides shape) → IsIndex shape i → IsIndex shape j → (i ≡ j) ⊎ DifferBy (axes strides shape) P (dot strides i) (dot strides j)
 same_or_differ P [] [] [] [] same all in-i in-j = inl refl
-same_or_differ P [] [] [] (b ∷ j) same all in-i in-j = absurd in-j
-same_or_differ P [] [] (a ∷ i) j same all in-i in-j = absurd in-i
-same_or_differ P [] (n ∷ shape) i j same all in-i in-j = absurd (omega arith)
-same_or_differ P (s ∷ strides) [] i j same all in-i in-j = absurd (omega arith)
-same_or_differ P (s ∷ strides) (n ∷ shape) [] j same all in-i in-j = absurd in-i
-same_or_differ P (s ∷ strides) (n ∷ shape) (a ∷ i) [] same all in-i in-j = absurd in-j
 same_or_differ P (s ∷ strides) (n ∷ shape) (a ∷ i) (b ∷ j) same all in-i in-j =
     let own : Axis = record { step = unsigned_abs s; len = n } in
     let rest = axes strides shape in
@@ -136,6 +130,7 @@ same_or_differ P (s ∷ strides) (n ∷ shape) (a ∷ i) (b ∷ j) same all in-i
         ]
       ]
     ]
+same_or_differ P _ _ _ _ same all in-i in-j = absurd (omega arith)
 
 -- ---- stacked layouts
 

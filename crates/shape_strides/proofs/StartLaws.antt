@@ -19,9 +19,8 @@ count-joined (axis ∷ axes) = count-join_outside axis (all_joined axes) ∙ ap 
 
 pub lengths_of-axes : (strides : List ℤ) (shape : List ℕ) → length strides ≡ length shape → lengths_of (strided_axes strides shape) ≡ shape
 lengths_of-axes [] [] same = refl
-lengths_of-axes [] (n ∷ shape) same = absurd (omega arith)
-lengths_of-axes (s ∷ strides) [] same = absurd (omega arith)
 lengths_of-axes (s ∷ strides) (n ∷ shape) same = ap (λ l. n ∷ l) (lengths_of-axes strides shape (omega arith))
+lengths_of-axes _ _ same = absurd (omega arith)
 
 pub length-axes : (strides : List ℤ) (shape : List ℕ) → length strides ≡ length shape → length (strided_axes strides shape) ≡ length shape
 length-axes strides shape same = sym (length-map (strided_axes strides shape) (λ axis. axis.len)) ∙ ap length (lengths_of-axes strides shape same)

@@ -15,50 +15,43 @@ dot-padded (s ∷ strides) (n ∷ shape) (k ∷ front) short = ap (λ z. s *ℤ 
 
 -- One more number adds that number times its stride.
 pub dot-push : (strides : List ℤ) (front : List ℕ) (x j : ℕ) → length front ≡ j → j < length strides → dot strides (front ++ x ∷ []) ≡ dot strides front +ℤ (get_or strides j (pos 0) *ℤ pos x)
-dot-push [] front x j same below = absurd (omega arith)
 dot-push (s ∷ strides) [] x zero same below = rw (dot-nil strides, +ℤ_idl (s *ℤ pos x)) (+ℤ_idr (s *ℤ pos x))
-dot-push (s ∷ strides) [] x (suc j) same below = absurd (omega arith)
-dot-push (s ∷ strides) (k ∷ front) x zero same below = absurd (omega arith)
 dot-push (s ∷ strides) (k ∷ front) x (suc j) same below =
     ap (λ z. s *ℤ pos k +ℤ z) (dot-push strides front x j (omega arith) (omega arith)) ∙ sym (+ℤ_assoc (s *ℤ pos k) (dot strides front) (get_or strides j (pos 0) *ℤ pos x))
+dot-push _ _ x _ same below = absurd (omega arith)
 
 -- If the shape has an index, the index of zeros is one.
 pub IsIndex-zeros : (shape index : List ℕ) → IsIndex shape index → IsIndex shape (zero_filled shape [])
 IsIndex-zeros [] [] in' = tt
-IsIndex-zeros [] (k ∷ index) in' = absurd in'
-IsIndex-zeros (n ∷ shape) [] in' = absurd in'
 IsIndex-zeros (n ∷ shape) (k ∷ index) in' = (omega (arith, in'.0), IsIndex-zeros shape index in'.1)
+IsIndex-zeros _ _ in' = absurd in'
 
 -- An index with its numbers from j on replaced by zeros is an index.
 pub IsIndex-padded_take : (shape index : List ℕ) (j : ℕ) → IsIndex shape index → IsIndex shape (zero_filled shape (take j index))
 IsIndex-padded_take [] [] j in' = tt
-IsIndex-padded_take [] (k ∷ index) j in' = absurd in'
-IsIndex-padded_take (n ∷ shape) [] j in' = absurd in'
 IsIndex-padded_take (n ∷ shape) (k ∷ index) zero in' = (omega (arith, in'.0), IsIndex-zeros shape index in'.1)
 IsIndex-padded_take (n ∷ shape) (k ∷ index) (suc j) in' = (in'.0, IsIndex-padded_take shape index j in'.1)
+IsIndex-padded_take _ _ j in' = absurd in'
 
 -- So is an index with one more number before the zeros.
 pub IsIndex-padded_push : (shape index : List ℕ) (j x : ℕ) → IsIndex shape index → j < length shape → x < get_or shape j 0 → IsIndex shape (zero_filled shape (take j index ++ x ∷ []))
-IsIndex-padded_push [] index j x in' below fits = absurd (omega arith)
-IsIndex-padded_push (n ∷ shape) [] j x in' below fits = absurd in'
 IsIndex-padded_push (n ∷ shape) (k ∷ index) zero x in' below fits = (fits, IsIndex-zeros shape index in'.1)
 IsIndex-padded_push (n ∷ shape) (k ∷ index) (suc j) x in' below fits = (in'.0, IsIndex-padded_push shape index j x in'.1 (omega arith) fits)
+IsIndex-padded_push _ _ j x in' below fits = absurd (omega arith)
 
 -- the rank of the next index, if the axes after j are at their last numbers
 pub rank-stepped : (shape index : List ℕ) (j : ℕ) → IsIndex shape index → j < length shape → rank (drop (suc j) shape) (drop (suc j) index) + 1 ≡ count (drop (suc j) shape) → rank shape (zero_filled shape (take j index ++ (get_or index j 0 + 1) ∷ [])) ≡ rank shape index + 1
-rank-stepped [] index j in' below last = absurd (omega arith)
-rank-stepped (n ∷ shape) [] j in' below last = absurd in'
 rank-stepped (n ∷ shape) (k ∷ index) zero in' below last = omega (arith, rank-zeros shape, add-mul k 1 (count shape), last)
 rank-stepped (n ∷ shape) (k ∷ index) (suc j) in' below last = omega (arith, rank-stepped shape index j in'.1 (omega arith) last)
+rank-stepped _ _ j in' below last = absurd (omega arith)
 
 -- one more axis at its last number
 pub last-more : (shape index : List ℕ) (j : ℕ) → IsIndex shape index → j < length shape → get_or shape j 0 ≤ get_or index j 0 + 1 → rank (drop (suc j) shape) (drop (suc j) index) + 1 ≡ count (drop (suc j) shape) → rank (drop j shape) (drop j index) + 1 ≡ count (drop j shape)
-last-more [] index j in' below top last = absurd (omega arith)
-last-more (n ∷ shape) [] j in' below top last = absurd in'
 last-more (n ∷ shape) (k ∷ index) zero in' below top last =
     let whole : n ≡ k + 1 = omega (arith, in'.0) in
     rw whole (omega (arith, last, add-mul k 1 (count shape)))
 last-more (n ∷ shape) (k ∷ index) (suc j) in' below top last = last-more shape index j in'.1 (omega arith) top last
+last-more _ _ j in' below top last = absurd (omega arith)
 
 -- ---- sums over the first axes of a layout that fits
 

@@ -8,6 +8,5 @@ refilled n old new is = ap (λ m. refill m old new) (sym is) ∙ take-append_sea
 
 pub zeros_for : {X Y : Type 0} (xs : List X) (ys : List Y) → length xs ≡ length ys → ◌≡◌ {A = List ℤ} (map (λ _. pos 0) xs) (map (λ _. pos 0) ys)
 zeros_for [] [] same = refl
-zeros_for [] (y ∷ ys) same = absurd (omega arith)
-zeros_for (x ∷ xs) [] same = absurd (omega arith)
 zeros_for (x ∷ xs) (y ∷ ys) same = ap (λ zeros. pos 0 ∷ zeros) (zeros_for xs ys (omega arith))
+zeros_for _ _ same = absurd (omega arith)

@@ -45,10 +45,9 @@ unfolding one
 one-step s = *ℤ-one s
 
 pub dot-unit : (strides : List ℤ) (shape : List ℕ) (axis : ℕ) → length strides ≡ length shape → axis < length shape → dot strides (unit shape axis) ≡ get_or strides axis (pos 0)
-dot-unit [] shape axis same below = absurd (omega arith)
-dot-unit (s ∷ strides) [] axis same below = absurd (omega arith)
 dot-unit (s ∷ strides) (n ∷ shape) zero same below = ap (λ z. s *ℤ pos 1 +ℤ z) (dot-zeros strides shape) ∙ +ℤ_idr (s *ℤ pos 1) ∙ one-step s
 dot-unit (s ∷ strides) (n ∷ shape) (suc axis) same below = rw (*ℤ-zero s, +ℤ_idl (dot strides (unit shape axis))) (dot-unit strides shape axis (omega arith) (omega arith))
+dot-unit _ _ axis same below = absurd (omega arith)
 
 -- If every stride is 0 and there is one for each axis, the list of strides is a 0 for each axis.
 pub zeros_are : {X : Type 0} (zeros : List ℤ) (axes : List X) (x : X) → length zeros ≡ length axes → ((k : ℕ) → k < length zeros → get_or zeros k (pos 0) ≡ pos 0) → zeros ≡ map (λ _. pos 0) axes

@@ -36,16 +36,13 @@ length-indexes (n ∷ shape) =
 
 pub rank-lt : (shape index : List ℕ) → IsIndex shape index → rank shape index < count shape
 rank-lt [] [] in' = omega arith
-rank-lt [] (k ∷ index) in' = absurd in'
-rank-lt (n ∷ shape) [] in' = absurd in'
 rank-lt (n ∷ shape) (k ∷ index) in' =
     omega (arith, mul-add-lt k (count shape) (rank shape index) n in'.0 (rank-lt shape index in'.1), mul_comm (count shape) n)
+rank-lt _ _ in' = absurd in'
 
 -- The position of an index in the list of indexes is its rank.
 pub get_or-indexes : (shape index : List ℕ) (d : List ℕ) → IsIndex shape index → get_or (indexes shape) (rank shape index) d ≡ index
 get_or-indexes [] [] d in' = refl
-get_or-indexes [] (k ∷ index) d in' = absurd in'
-get_or-indexes (n ∷ shape) [] d in' = absurd in'
 get_or-indexes (n ∷ shape) (k ∷ index) d in' =
     let block : ℕ → List (List ℕ) = λ j. map (λ i. j ∷ i) (indexes shape) in
     let same : (j : ℕ) → length (block j) ≡ count shape = λ j. length-map (indexes shape) (λ i. j ∷ i) ∙ length-indexes shape in
@@ -53,6 +50,7 @@ get_or-indexes (n ∷ shape) (k ∷ index) d in' =
     let inside : rank shape index < length (indexes shape) = omega (arith, length-indexes shape) in
     let zero_more : 0 + k ≡ k = omega arith in
     get_or-blocks block (count shape) same 0 n k (rank shape index) d in'.0 low ∙ ap (λ j. get_or (block j) (rank shape index) d) zero_more ∙ get_or-map (λ i. k ∷ i) (indexes shape) (rank shape index) [] d inside ∙ ap (λ i. k ∷ i) (get_or-indexes shape index [] in'.1)
+get_or-indexes _ _ d in' = absurd in'
 
 -- Every number below the number of items is the rank of an index.
 pub index_at : (shape : List ℕ) (k : ℕ) → k < count shape → (index : List ℕ) × IsIndex shape index × (rank shape index ≡ k)
@@ -81,25 +79,21 @@ rank-same shape i j in-i in-j same = sym (get_or-indexes shape i [] in-i) ∙ ap
 
 pub length-index : (shape index : List ℕ) → IsIndex shape index → length index ≡ length shape
 length-index [] [] in' = refl
-length-index [] (k ∷ index) in' = absurd in'
-length-index (n ∷ shape) [] in' = absurd in'
 length-index (n ∷ shape) (k ∷ index) in' = ap suc (length-index shape index in'.1)
+length-index _ _ in' = absurd in'
 
 pub number-lt : (shape index : List ℕ) (j : ℕ) → IsIndex shape index → j < length shape → get_or index j 0 < get_or shape j 0
-number-lt [] index j in' below = absurd (omega arith)
-number-lt (n ∷ shape) [] j in' below = absurd in'
 number-lt (n ∷ shape) (k ∷ index) zero in' below = in'.0
 number-lt (n ∷ shape) (k ∷ index) (suc j) in' below = number-lt shape index j in'.1 (omega arith)
+number-lt _ _ j in' below = absurd (omega arith)
 
 pub IsIndex-from_numbers : (shape index : List ℕ) → length index ≡ length shape → ((j : ℕ) → j < length shape → get_or index j 0 < get_or shape j 0) → IsIndex shape index
 IsIndex-from_numbers [] [] same below = tt
-IsIndex-from_numbers [] (k ∷ index) same below = absurd (omega arith)
-IsIndex-from_numbers (n ∷ shape) [] same below = absurd (omega arith)
 IsIndex-from_numbers (n ∷ shape) (k ∷ index) same below =
     (below 0 (omega arith), IsIndex-from_numbers shape index (omega arith) (λ j inside. below (suc j) (omega arith)))
+IsIndex-from_numbers _ _ same below = absurd (omega arith)
 
 pub IsIndex-append : (shape shape' index index' : List ℕ) → IsIndex shape index → IsIndex shape' index' → IsIndex (shape ++ shape') (index ++ index')
 IsIndex-append [] shape' [] index' in' later = later
-IsIndex-append [] shape' (k ∷ index) index' in' later = absurd in'
-IsIndex-append (n ∷ shape) shape' [] index' in' later = absurd in'
 IsIndex-append (n ∷ shape) shape' (k ∷ index) index' in' later = (in'.0, IsIndex-append shape shape' index index' in'.1 later)
+IsIndex-append _ shape' _ index' in' later = absurd in'

@@ -120,11 +120,10 @@ index-pairs (p ∷ pairs) below = (below.0, index-pairs pairs below.1)
 
 paired : (order : List Axis) (index : List ℕ) → IsIndex (lengths_in order) index → (pairs : List Numbered) × (axes_in pairs ≡ order) × (numbers_in pairs ≡ index) × Each IsBelow pairs
 paired [] [] in' = ([], refl, refl, tt)
-paired [] (k ∷ index) in' = absurd in'
-paired (a ∷ order) [] in' = absurd in'
 paired (a ∷ order) (k ∷ index) in' =
     let rest = paired order index in'.1 in
     ((a, k) ∷ rest.0, ap (λ l. a ∷ l) rest.1, ap (λ l. k ∷ l) rest.2, (in'.0, rest.3))
+paired _ _ in' = absurd in'
 
 pub map-swap : {X Y : Type 0} (f : X → Y) (l : List X) (i j : ℕ) (d : X) → i < length l → j < length l → map f (swap l i j) ≡ swap (map f l) i j
 map-swap f l i j d below below' =

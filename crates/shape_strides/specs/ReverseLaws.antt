@@ -20,10 +20,9 @@ count-reverse (n ∷ shape) =
 
 pub IsIndex-reverse : (shape index : List ℕ) → IsIndex shape index → IsIndex (reverse shape) (reverse index)
 IsIndex-reverse [] [] in' = tt
-IsIndex-reverse [] (k ∷ index) in' = absurd in'
-IsIndex-reverse (n ∷ shape) [] in' = absurd in'
 IsIndex-reverse (n ∷ shape) (k ∷ index) in' =
     rw (reverse-cons n shape, reverse-cons k index) (IsIndex-append (reverse shape) (n ∷ []) (reverse index) (k ∷ []) (IsIndex-reverse shape index in'.1) (in'.0, tt))
+IsIndex-reverse _ _ in' = absurd in'
 
 -- The reverse of an index of the reversed shape is an index of the shape.
 pub IsIndex-from_reverse : (shape index : List ℕ) → IsIndex (reverse shape) index → IsIndex shape (reverse index)
