@@ -10,15 +10,11 @@ use Rattle.reshape_rule.specs.inside.Tests.{is_affine}
 -- Strides that differ only on axes of length 1 lead to the same entries.
 dot-same : (shape : List ℕ) (s t : List ℤ) (index : List ℕ) → length s ≡ length shape → length t ≡ length shape → ((axis : ℕ) → axis < length shape → 2 ≤ get_or shape axis 0 → get_or s axis (pos 0) ≡ get_or t axis (pos 0)) → IsIndex shape index → dot s index ≡ dot t index
 dot-same [] [] [] index same same' are in' = refl
-dot-same [] (x ∷ s) t index same same' are in' = absurd (omega arith)
-dot-same [] [] (y ∷ t) index same same' are in' = absurd (omega arith)
-dot-same (n ∷ shape) [] t index same same' are in' = absurd (omega arith)
-dot-same (n ∷ shape) (x ∷ s) [] index same same' are in' = absurd (omega arith)
-dot-same (n ∷ shape) (x ∷ s) (y ∷ t) [] same same' are in' = absurd in'
 dot-same (n ∷ shape) (x ∷ s) (y ∷ t) (zero ∷ index) same same' are in' =
     ap (λ z. z +ℤ dot s index) (*ℤ-zero x ∙ sym (*ℤ-zero y)) ∙ ap (λ z. y *ℤ pos 0 +ℤ z) (dot-same shape s t index (omega arith) (omega arith) (λ axis below long. are (suc axis) (omega arith) long) in'.1)
 dot-same (n ∷ shape) (x ∷ s) (y ∷ t) (suc k ∷ index) same same' are in' =
     ap (λ z. z *ℤ pos (suc k) +ℤ dot s index) (are 0 (omega arith) (omega (arith, in'.0))) ∙ ap (λ z. y *ℤ pos (suc k) +ℤ z) (dot-same shape s t index (omega arith) (omega arith) (λ axis below long. are (suc axis) (omega arith) long) in'.1)
+dot-same _ _ _ _ same same' are in' = absurd (omega arith)
 
 affine-first : (list shape : List ℕ) → 0 < count shape → (affine : IsAffine list shape) → pos (get_or list 0 0) ≡ affine.first
 affine-first list shape some affine =
