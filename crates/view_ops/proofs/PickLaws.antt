@@ -21,11 +21,9 @@ placed_more shape items k a end low later is =
 pub ArePicks-append : (shape shape' : List ℕ) (picks picks' : List AxisPick) → ArePicks shape picks → ArePicks shape' picks' → ArePicks (shape ++ shape') (picks ++ picks')
 ArePicks-append shape shape' (NewAxis ∷ picks) picks' are later = ArePicks-append shape shape' picks picks' are later
 ArePicks-append [] shape' [] picks' are later = later
-ArePicks-append [] shape' (AtAxis number ∷ picks) picks' are later = absurd are
-ArePicks-append [] shape' (AlongAxis run ∷ picks) picks' are later = absurd are
-ArePicks-append (n ∷ shape) shape' [] picks' are later = absurd are
 ArePicks-append (n ∷ shape) shape' (AtAxis number ∷ picks) picks' are later = (are.0, ArePicks-append shape shape' picks picks' are.1 later)
 ArePicks-append (n ∷ shape) shape' (AlongAxis run ∷ picks) picks' are later = (are.0, ArePicks-append shape shape' picks picks' are.1 later)
+ArePicks-append _ shape' _ picks' are later = absurd are
 
 -- ---- a whole axis
 

@@ -25,26 +25,22 @@ shorter m n c d few low =
 pub count-picks : (shape : List ℕ) (picks : List AxisPick) → ArePicks shape picks → count (shape_of_picks picks) ≤ count shape
 count-picks shape (NewAxis ∷ picks) are = omega (arith, count-picks shape picks are)
 count-picks [] [] are = omega arith
-count-picks [] (AtAxis number ∷ picks) are = absurd are
-count-picks [] (AlongAxis run ∷ picks) are = absurd are
-count-picks (n ∷ shape) [] are = absurd are
 count-picks (n ∷ shape) (AtAxis number ∷ picks) are =
     let more : 1 * count (shape_of_picks picks) ≤ n * count shape = shorter 1 n (count (shape_of_picks picks)) (count shape) (omega (arith, are.0)) (count-picks shape picks are.1) in
     omega arith
 count-picks (n ∷ shape) (AlongAxis run ∷ picks) are =
     shorter (length (run_numbers run)) n (count (shape_of_picks picks)) (count shape) (omega (arith, length-run run, are.0.count_within)) (count-picks shape picks are.1)
+count-picks _ _ are = absurd are
 
 pub short-picks : (shape : List ℕ) (picks : List AxisPick) → ArePicks shape picks → All (λ m. m ≤ max_items) shape → list_all (λ m. nat_le m max_items) (shape_of_picks picks) ≡ true
 short-picks shape (NewAxis ∷ picks) are low = short-picks shape picks are low
 short-picks [] [] are low = refl
-short-picks [] (AtAxis number ∷ picks) are low = absurd are
-short-picks [] (AlongAxis run ∷ picks) are low = absurd are
-short-picks (n ∷ shape) [] are low = absurd are
 short-picks (n ∷ shape) (AtAxis number ∷ picks) are low = short-picks shape picks are.1 (λ k d below. low (suc k) d (omega arith))
 short-picks (n ∷ shape) (AlongAxis run ∷ picks) are low =
     let short : length (run_numbers run) ≤ max_items = omega (arith, length-run run, are.0.count_within, low 0 0 (omega arith)) in
     let test : nat_le (length (run_numbers run)) max_items ≡ true = grind (arith, nat_tests) in
     rw test (short-picks shape picks are.1 (λ k d below. low (suc k) d (omega arith)))
+short-picks _ _ are low = absurd are
 
 pub shape_of-picks : (shape : List ℕ) (picks : List AxisPick) → ArePicks shape picks → All (λ m. m ≤ max_items) shape → count shape ≤ max_items → length (shape_of_picks picks) ≤ max_axes → shape_of (shape_of_picks picks) ≡ Ok (shape_of_picks picks)
 shape_of-picks shape picks are low small few = shape_of-ok (shape_of_picks picks) few (short-picks shape picks are low) (omega (arith, count-picks shape picks are))
@@ -52,30 +48,24 @@ shape_of-picks shape picks are low small few = shape_of-ok (shape_of_picks picks
 -- ---- the indexes to which indexes lead
 
 pub leads-picks : (shape : List ℕ) (picks : List AxisPick) (index : List ℕ) → ArePicks shape picks → IsIndex (shape_of_picks picks) index → IsIndex shape (leads_of_picks picks index)
-leads-picks shape (NewAxis ∷ picks) [] are in' = absurd in'
 leads-picks shape (NewAxis ∷ picks) (k ∷ index) are in' = leads-picks shape picks index are in'.1
 leads-picks [] [] index are in' = tt
-leads-picks [] (AtAxis number ∷ picks) index are in' = absurd are
-leads-picks [] (AlongAxis run ∷ picks) index are in' = absurd are
-leads-picks (n ∷ shape) [] index are in' = absurd are
 leads-picks (n ∷ shape) (AtAxis number ∷ picks) index are in' = (are.0, leads-picks shape picks index are.1 in')
-leads-picks (n ∷ shape) (AlongAxis run ∷ picks) [] are in' = absurd in'
 leads-picks (n ∷ shape) (AlongAxis run ∷ picks) (k ∷ index) are in' =
     let low : k < run.count = omega (arith, length-run run, in'.0) in
     (rw (number_at run k low) (are.0.below k low), leads-picks shape picks index are.1 in'.1)
+leads-picks _ _ _ are in' = absurd (omega arith)
 
 -- If the view has items, the first numbers of the picks are an index of the old array.
 pub IsIndex-firsts : (shape : List ℕ) (picks : List AxisPick) → ArePicks shape picks → 0 < count (shape_of_picks picks) → IsIndex shape (firsts picks)
 IsIndex-firsts shape (NewAxis ∷ picks) are some = IsIndex-firsts shape picks are (omega arith)
 IsIndex-firsts [] [] are some = tt
-IsIndex-firsts [] (AtAxis number ∷ picks) are some = absurd are
-IsIndex-firsts [] (AlongAxis run ∷ picks) are some = absurd are
-IsIndex-firsts (n ∷ shape) [] are some = absurd are
 IsIndex-firsts (n ∷ shape) (AtAxis number ∷ picks) are some = (are.0, IsIndex-firsts shape picks are.1 some)
 IsIndex-firsts (n ∷ shape) (AlongAxis run ∷ picks) are some =
     let both = factors_pos (length (run_numbers run)) (count (shape_of_picks picks)) some in
     let low : 0 < run.count = omega (arith, length-run run, both.0) in
     (rw (← first_number run) (are.0.below 0 low), IsIndex-firsts shape picks are.1 both.1)
+IsIndex-firsts _ _ are some = absurd are
 
 -- ---- the loops
 
@@ -149,13 +139,10 @@ stepped_on strides made new picks i axis d low is have =
 pub length-strides : (strides : List ℤ) (shape : List ℕ) (picks : List AxisPick) → length strides ≡ length shape → ArePicks shape picks → length (picked_strides strides picks) ≡ length (shape_of_picks picks)
 length-strides strides shape (NewAxis ∷ picks) one are = ap suc (length-strides strides shape picks one are)
 length-strides strides [] [] one are = refl
-length-strides strides [] (AtAxis number ∷ picks) one are = absurd are
-length-strides strides [] (AlongAxis run ∷ picks) one are = absurd are
-length-strides strides (n ∷ shape) [] one are = absurd are
-length-strides [] (n ∷ shape) (AtAxis number ∷ picks) one are = absurd (omega arith)
-length-strides [] (n ∷ shape) (AlongAxis run ∷ picks) one are = absurd (omega arith)
 length-strides (s ∷ strides) (n ∷ shape) (AtAxis number ∷ picks) one are = length-strides strides shape picks (omega arith) are.1
 length-strides (s ∷ strides) (n ∷ shape) (AlongAxis run ∷ picks) one are = ap suc (length-strides strides shape picks (omega arith) are.1)
+length-strides [] (n ∷ shape) picks one are = absurd (omega arith)
+length-strides _ _ _ one are = absurd (omega arith)
 
 -- ---- addresses
 
@@ -172,45 +159,31 @@ along s run n k within low =
     ]
 
 pub dot-picks : (strides : List ℤ) (shape : List ℕ) (picks : List AxisPick) (index : List ℕ) → length strides ≡ length shape → ArePicks shape picks → IsIndex (shape_of_picks picks) index → dot strides (firsts picks) +ℤ dot (picked_strides strides picks) index ≡ dot strides (leads_of_picks picks index)
-dot-picks strides shape (NewAxis ∷ picks) [] one are in' = absurd in'
 dot-picks strides shape (NewAxis ∷ picks) (k ∷ index) one are in' =
     let d = dot strides (firsts picks) in
     let e = dot (picked_strides strides picks) index in
     ap (λ z. d +ℤ (z +ℤ e)) (zero-*ℤ (pos k)) ∙ ap (λ z. d +ℤ z) (+ℤ_idl e) ∙ dot-picks strides shape picks index one are in'.1
 dot-picks strides [] [] index one are in' = rw (dot-nil strides) refl
-dot-picks strides [] (AtAxis number ∷ picks) index one are in' = absurd are
-dot-picks strides [] (AlongAxis run ∷ picks) index one are in' = absurd are
-dot-picks strides (n ∷ shape) [] index one are in' = absurd are
-dot-picks [] (n ∷ shape) (AtAxis number ∷ picks) index one are in' = absurd (omega arith)
 dot-picks (s ∷ strides) (n ∷ shape) (AtAxis number ∷ picks) index one are in' =
     +ℤ_assoc (s *ℤ pos number) (dot strides (firsts picks)) (dot (picked_strides strides picks) index) ∙ ap (λ z. s *ℤ pos number +ℤ z) (dot-picks strides shape picks index (omega arith) are.1 in')
-dot-picks [] (n ∷ shape) (AlongAxis run ∷ picks) index one are in' = absurd (omega arith)
-dot-picks (s ∷ strides) (n ∷ shape) (AlongAxis run ∷ picks) [] one are in' = absurd in'
 dot-picks (s ∷ strides) (n ∷ shape) (AlongAxis run ∷ picks) (k ∷ index) one are in' =
     let low : k < run.count = omega (arith, length-run run, in'.0) in
     let here = along s run n k are.0 low ∙ ap (λ x. s *ℤ pos x) (sym (number_at run k low)) in
     sums (s *ℤ pos run.first) (dot strides (firsts picks)) (run_stride s run *ℤ pos k) (dot (picked_strides strides picks) index) (s *ℤ pos (get_or (run_numbers run) k 0)) (dot strides (leads_of_picks picks index)) here (dot-picks strides shape picks index (omega arith) are.1 in'.1)
+dot-picks [] (n ∷ shape) picks index one are in' = absurd (omega arith)
+dot-picks _ _ _ _ one are in' = absurd (omega arith)
 
 -- ---- different indexes lead to different items
 
 pub one-picks : (shape : List ℕ) (picks : List AxisPick) (i j : List ℕ) → ArePicks shape picks → IsIndex (shape_of_picks picks) i → IsIndex (shape_of_picks picks) j → leads_of_picks picks i ≡ leads_of_picks picks j → i ≡ j
-one-picks shape (NewAxis ∷ picks) [] j are in-i in-j same = absurd in-i
-one-picks shape (NewAxis ∷ picks) (k ∷ i) [] are in-i in-j same = absurd in-j
 one-picks shape (NewAxis ∷ picks) (k ∷ i) (l ∷ j) are in-i in-j same =
     let first : k ≡ l = omega (arith, in-i.0, in-j.0) in
     let rest = one-picks shape picks i j are in-i.1 in-j.1 same in
     cc
 one-picks [] [] [] [] are in-i in-j same = refl
-one-picks [] [] (k ∷ i) j are in-i in-j same = absurd in-i
-one-picks [] [] [] (l ∷ j) are in-i in-j same = absurd in-j
-one-picks [] (AtAxis number ∷ picks) i j are in-i in-j same = absurd are
-one-picks [] (AlongAxis run ∷ picks) i j are in-i in-j same = absurd are
-one-picks (n ∷ shape) [] i j are in-i in-j same = absurd are
 one-picks (n ∷ shape) (AtAxis number ∷ picks) i j are in-i in-j same =
     let later : leads_of_picks picks i ≡ leads_of_picks picks j = cc in
     one-picks shape picks i j are.1 in-i in-j later
-one-picks (n ∷ shape) (AlongAxis run ∷ picks) [] j are in-i in-j same = absurd in-i
-one-picks (n ∷ shape) (AlongAxis run ∷ picks) (k ∷ i) [] are in-i in-j same = absurd in-j
 one-picks (n ∷ shape) (AlongAxis run ∷ picks) (k ∷ i) (l ∷ j) are in-i in-j same =
     let low-k : k < run.count = omega (arith, length-run run, in-i.0) in
     let low-l : l < run.count = omega (arith, length-run run, in-j.0) in
@@ -219,6 +192,7 @@ one-picks (n ∷ shape) (AlongAxis run ∷ picks) (k ∷ i) (l ∷ j) are in-i i
     let first : k ≡ l = run-one run n k l are.0 low-k low-l (sym (number_at run k low-k) ∙ here ∙ number_at run l low-l) in
     let rest = one-picks shape picks i j are.1 in-i.1 in-j.1 later in
     cc
+one-picks _ _ _ _ are in-i in-j same = absurd (omega arith)
 
 -- ---- no step leaves the limits
 
@@ -258,12 +232,6 @@ small_step z s strides n shape run rest within few in' stays two =
 pub small-picks : (z : ℤ) (strides : List ℤ) (shape : List ℕ) (picks : List AxisPick) → length strides ≡ length shape → All (λ m. m ≤ max_items) shape → ArePicks shape picks → 0 < count (shape_of_picks picks) → StaysWithin z strides shape → HaveSmallSteps strides picks
 small-picks z strides shape (NewAxis ∷ picks) one low are some stays = small-picks z strides shape picks one low are (omega arith) stays
 small-picks z [] [] [] one low are some stays = tt
-small-picks z (s ∷ strides) [] [] one low are some stays = absurd (omega arith)
-small-picks z strides [] (AtAxis number ∷ picks) one low are some stays = absurd are
-small-picks z strides [] (AlongAxis run ∷ picks) one low are some stays = absurd are
-small-picks z strides (n ∷ shape) [] one low are some stays = absurd are
-small-picks z [] (n ∷ shape) (AtAxis number ∷ picks) one low are some stays = absurd (omega arith)
-small-picks z [] (n ∷ shape) (AlongAxis run ∷ picks) one low are some stays = absurd (omega arith)
 small-picks z (s ∷ strides) (n ∷ shape) (AtAxis number ∷ picks) one low are some stays =
     (tt, small-picks (z +ℤ s *ℤ pos number) strides shape picks (omega arith) (λ k d below. low (suc k) d (omega arith)) are.1 some (stays_at z s strides n number shape are.0 stays))
 small-picks z (s ∷ strides) (n ∷ shape) (AlongAxis run ∷ picks) one low are some stays =
@@ -271,6 +239,9 @@ small-picks z (s ∷ strides) (n ∷ shape) (AlongAxis run ∷ picks) one low ar
     let one_or_more : 0 < run.count = omega (arith, length-run run, both.0) in
     let first : run.first < n = rw (← first_number run) (are.0.below 0 one_or_more) in
     (small_step z s strides n shape run (firsts picks) are.0 (low 0 0 (omega arith)) (IsIndex-firsts shape picks are.1 both.1) stays, small-picks (z +ℤ s *ℤ pos run.first) strides shape picks (omega arith) (λ k d below. low (suc k) d (omega arith)) are.1 both.1 (stays_at z s strides n run.first shape first stays))
+small-picks z [] (n ∷ shape) picks one low are some stays = absurd (omega arith)
+small-picks z (s ∷ strides) (n ∷ shape) [] one low are some stays = absurd are
+small-picks z _ _ _ one low are some stays = absurd (omega arith)
 
 below_limit : (a : ℤ) (len : ℕ) → (a +ℤ pos 1) ≤ℤ pos len → a ≤ℤ pos len
 below_limit a len low = omega (arith, ints)

@@ -36,13 +36,12 @@ turn_in : (a b d : ℤ) → b ≡ pos 0 → a +ℤ d ≡ b +ℤ d +ℤ a
 turn_in a b d none = omega (arith, ints)
 
 pub dot-set : (strides : List ℤ) (xs : List ℕ) (a k : ℕ) → a < length strides → a < length xs → get_or xs a 0 ≡ 0 → dot strides (set xs a k) ≡ dot strides xs +ℤ get_or strides a (pos 0) *ℤ pos k
-dot-set [] xs a k below within none = absurd (omega arith)
-dot-set (s ∷ strides) [] a k below within none = absurd (omega arith)
 dot-set (s ∷ strides) (x ∷ xs) zero k below within none =
     let nothing : s *ℤ pos x ≡ pos 0 = ap (λ y. s *ℤ pos y) none ∙ *ℤ-zero s in
     turn_in (s *ℤ pos k) (s *ℤ pos x) (dot strides xs) nothing
 dot-set (s ∷ strides) (x ∷ xs) (suc a) k below within none =
     ap (λ z. s *ℤ pos x +ℤ z) (dot-set strides xs a k (omega arith) (omega arith) none) ∙ sym (+ℤ_assoc (s *ℤ pos x) (dot strides xs) (get_or strides a (pos 0) *ℤ pos k))
+dot-set _ _ a k below within none = absurd (omega arith)
 
 dot-nothing : (strides : List ℤ) (n : ℕ) → dot strides (replicate n 0) ≡ pos 0
 dot-nothing [] n = refl
@@ -131,12 +130,11 @@ map-set_out l a x (b ∷ bs) none =
 
 read_back : (n : ℕ) (axes numbers over : List ℕ) → AreAxes n axes → length over ≡ n → length numbers ≡ length axes → map (λ a. get_or (put_at axes numbers over) a 0) axes ≡ numbers
 read_back n [] [] over are size same = refl
-read_back n [] (x ∷ numbers) over are size same = absurd (omega arith)
-read_back n (a ∷ axes) [] over are size same = absurd (omega arith)
 read_back n (a ∷ axes) (x ∷ numbers) over are size same =
     let rest = put_at axes numbers over in
     let long : a < length rest = omega (arith, length-put_at axes numbers over, are.0) in
     rw (get_or-set_same rest a x 0 long) (ap (λ ys. x ∷ ys) (map-set_out rest a x axes are.1 ∙ read_back n axes numbers over are.2 size (omega arith)))
+read_back n _ _ over are size same = absurd (omega arith)
 
 pub transposed-one : (axes shape i j : List ℕ) → length axes ≡ length shape → AreAxes (length shape) axes → IsIndex (transposed_shape axes shape) i → IsIndex (transposed_shape axes shape) j → transposed_index axes i ≡ transposed_index axes j → i ≡ j
 transposed-one axes shape i j size are in-i in-j same =
