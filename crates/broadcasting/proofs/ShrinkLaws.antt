@@ -40,29 +40,21 @@ rest n m stride shape small strides can = record { axes = omega (arith, can.axes
 
 all_fit : (shape small : List ℕ) (strides : List ℤ) → length strides ≡ length shape → CanShrink shape strides small → all_stretch small shape ≡ true
 all_fit [] [] strides same can = refl
-all_fit [] (m ∷ small) strides same can = absurd (omega (arith, can.axes))
-all_fit (n ∷ shape) [] strides same can = absurd (omega (arith, can.axes))
-all_fit (n ∷ shape) (m ∷ small) [] same can = absurd (omega (arith, same))
 all_fit (n ∷ shape) (m ∷ small) (s ∷ strides) same can =
     λ i. fits n m s (can.each 0 (omega arith)) i && all_fit shape small strides (omega (arith, same)) (rest n m s shape small strides can) i
+all_fit _ _ _ same can = absurd (omega arith)
 
 count-shrunk : (shape small : List ℕ) (strides : List ℤ) → length strides ≡ length shape → CanShrink shape strides small → count small ≤ count shape
 count-shrunk [] [] strides same can = omega arith
-count-shrunk [] (m ∷ small) strides same can = absurd (omega (arith, can.axes))
-count-shrunk (n ∷ shape) [] strides same can = absurd (omega (arith, can.axes))
-count-shrunk (n ∷ shape) (m ∷ small) [] same can = absurd (omega (arith, same))
 count-shrunk (n ∷ shape) (m ∷ small) (s ∷ strides) same can =
     mul-le-mul (at_most n m s (can.each 0 (omega arith))) (count-shrunk shape small strides (omega (arith, same)) (rest n m s shape small strides can))
+count-shrunk _ _ _ same can = absurd (omega arith)
 
 dot-within : (shape small : List ℕ) (strides : List ℤ) (index : List ℕ) → length strides ≡ length shape → CanShrink shape strides small → IsIndex shape index → dot strides index ≡ dot strides (within_axes small index)
 dot-within [] [] strides [] same can in' = refl
-dot-within [] [] strides (k ∷ index) same can in' = absurd in'
-dot-within [] (m ∷ small) strides index same can in' = absurd (omega (arith, can.axes))
-dot-within (n ∷ shape) [] strides index same can in' = absurd (omega (arith, can.axes))
-dot-within (n ∷ shape) (m ∷ small) [] index same can in' = absurd (omega (arith, same))
-dot-within (n ∷ shape) (m ∷ small) (s ∷ strides) [] same can in' = absurd in'
 dot-within (n ∷ shape) (m ∷ small) (s ∷ strides) (k ∷ index) same can in' =
     λ i. step n m k s (can.each 0 (omega arith)) in'.0 i +ℤ dot-within shape small strides index (omega (arith, same)) (rest n m s shape small strides can) in'.1 i
+dot-within _ _ _ _ same can in' = absurd (omega arith)
 
 pub IsIndex-shrunk : (shape small : List ℕ) (strides : List ℤ) (index : List ℕ) → CanShrink shape strides small → IsIndex small index → IsIndex shape index
 IsIndex-shrunk shape small strides index can in' =

@@ -10,11 +10,10 @@ axis-kept false stride k = refl
 
 dot-kept : (shape : List ℕ) (strides : List ℤ) (index : List ℕ) → length strides ≡ length shape → dot (kept_strides shape strides) index ≡ dot strides (within_axes shape index)
 dot-kept [] [] index same = refl
-dot-kept [] (s ∷ strides) index same = absurd (omega arith)
-dot-kept (n ∷ shape) [] index same = absurd (omega arith)
 dot-kept (n ∷ shape) (s ∷ strides) [] same = refl
 dot-kept (n ∷ shape) (s ∷ strides) (k ∷ index) same =
     λ i. axis-kept (n == 1) s k i +ℤ dot-kept shape strides index (omega arith) i
+dot-kept _ _ index same = absurd (omega arith)
 
 dot-behind : (more : ℕ) (strides : List ℤ) (index : List ℕ) → dot (replicate more (pos 0) ++ strides) index ≡ dot strides (drop more index)
 dot-behind zero strides index = refl
@@ -37,9 +36,8 @@ stretched-shows old target strides made = record {
 
 length-kept : (shape : List ℕ) (strides : List ℤ) → length strides ≡ length shape → length (kept_strides shape strides) ≡ length shape
 length-kept [] [] same = refl
-length-kept [] (s ∷ strides) same = absurd (omega arith)
-length-kept (n ∷ shape) [] same = absurd (omega arith)
 length-kept (n ∷ shape) (s ∷ strides) same = ap suc (length-kept shape strides (omega arith))
+length-kept _ _ same = absurd (omega arith)
 
 pub stretched-length : (old : Layout) (target : List ℕ) (strides : List ℤ) → AreStretched old target strides → length strides ≡ length target
 stretched-length old target strides made =

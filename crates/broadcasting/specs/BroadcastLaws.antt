@@ -29,9 +29,8 @@ number-itself n k below =
 
 within-itself : (shape index : List ℕ) → IsIndex shape index → within_axes shape index ≡ index
 within-itself [] [] in' = refl
-within-itself [] (k ∷ index) in' = absurd in'
-within-itself (n ∷ shape) [] in' = absurd in'
 within-itself (n ∷ shape) (k ∷ index) in' = λ i. number-itself n k in'.0 i ∷ within-itself shape index in'.1 i
+within-itself _ _ in' = absurd in'
 
 -- Each index leads to itself.
 pub broadcast_index-itself : (shape index : List ℕ) → IsIndex shape index → broadcast_index shape index ≡ index
@@ -49,13 +48,12 @@ number-within m n k can below =
 
 IsIndex-within : (shape target index : List ℕ) → all_stretch shape target ≡ true → IsIndex target index → IsIndex shape (within_axes shape index)
 IsIndex-within [] [] [] all in' = tt
-IsIndex-within [] [] (k ∷ index) all in' = absurd in'
 IsIndex-within [] (n ∷ target) index all in' = absurd (false≢true all)
 IsIndex-within (m ∷ shape) [] index all in' = absurd (false≢true all)
-IsIndex-within (m ∷ shape) (n ∷ target) [] all in' = absurd in'
 IsIndex-within (m ∷ shape) (n ∷ target) (k ∷ index) all in' =
     let can = and_parts (stretches m n) (all_stretch shape target) all in
     (number-within m n k can.0 in'.0, IsIndex-within shape target index can.1 in'.1)
+IsIndex-within _ _ _ all in' = absurd in'
 
 -- An index of a target with `more` new axes leads to an index of the shape.
 IsIndex-behind : (more : ℕ) (shape target index : List ℕ) → all_stretch (replicate more 1 ++ shape) target ≡ true → IsIndex target index → IsIndex shape (within_axes shape (drop more index))

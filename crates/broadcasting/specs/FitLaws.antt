@@ -47,23 +47,20 @@ fits-on k m n first second = grind (arith, nat_tests)
 
 all-left : (left right : List ℕ) → length left ≡ length right → all_stretch left (common_lengths left right) ≡ true
 all-left [] [] same = refl
-all-left [] (n ∷ right) same = absurd (omega arith)
-all-left (m ∷ left) [] same = absurd (omega arith)
 all-left (m ∷ left) (n ∷ right) same = λ i. left-fits m n i && all-left left right (omega arith) i
+all-left _ _ same = absurd (omega arith)
 
 all-right : (left right : List ℕ) → length left ≡ length right → all_go_together left right ≡ true → all_stretch right (common_lengths left right) ≡ true
 all-right [] [] same together = refl
-all-right [] (n ∷ right) same together = absurd (omega arith)
-all-right (m ∷ left) [] same together = absurd (omega arith)
 all-right (m ∷ left) (n ∷ right) same together =
     let first = and_parts (go_together m n) (all_go_together left right) together in
     λ i. right-fits m n first.0 i && all-right left right (omega arith) first.1 i
+all-right _ _ same together = absurd (omega arith)
 
 length-common : (left right : List ℕ) → length left ≡ length right → length (common_lengths left right) ≡ length left
 length-common [] [] same = refl
-length-common [] (n ∷ right) same = absurd (omega arith)
-length-common (m ∷ left) [] same = absurd (omega arith)
 length-common (m ∷ left) (n ∷ right) same = ap suc (length-common left right (omega arith))
+length-common _ _ same = absurd (omega arith)
 
 all-on : (first middle last : List ℕ) → all_stretch first middle ≡ true → all_stretch middle last ≡ true → all_stretch first last ≡ true
 all-on [] [] last one two = two
