@@ -30,8 +30,3 @@ found-all left right rank axis lengths is past together are =
 
 pub too-many-axes : (shape target : List ℕ) → length target < length shape → can_stretch shape target ≡ false
 too-many-axes shape target many = false_from_ne_true (can_stretch shape target) (λ can. omega (arith, few-axes shape target can))
-
--- ---- strides
-
-pub kept-drop : (shape : List ℕ) (strides : List ℤ) (k : ℕ) → k < length shape → k < length strides → kept_strides (drop k shape) (drop k strides) ≡ kept_stride (get_or shape k 0) (get_or strides k (pos 0)) ∷ kept_strides (drop (k + 1) shape) (drop (k + 1) strides)
-kept-drop shape strides k in-shape in-strides = rw (drop_more shape k 0 in-shape, drop_more strides k (pos 0) in-strides) refl

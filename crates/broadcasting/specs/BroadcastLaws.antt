@@ -1,5 +1,4 @@
--- Laws of broadcasting: an array stretched to its own shape is unchanged, and one stretched into a target has its
--- shape.
+-- Laws of broadcasting: an array stretched to its own shape is unchanged.
 use Rattle.std.specs.Prelude.{◌≡◌, ℕ, ◌-◌, ◌<◌, ◌==◌, ◌&&◌, ◌||◌, true, if◌then◌else◌, List, ◌∷◌, ◌++◌, length, take, drop, replicate}
 use Rattle.std.proofs.Common.{Result, Ok, Err, zero, suc, false, [], refl, sym, ap, ◌∙◌, arith, get_or}
 use Rattle.broadcasting.specs.Words.{list_all, is_ok, false≢true, eqb-true, and_parts, nat_tests, Refusal, ShapesDoNotBroadcast, ◌>>=◌, same_answer, check_passed, IsIndex, rank, length-index, same_on_indexes, Layout, natural, address, offsets, get_or-offsets, View, view_through}
@@ -69,18 +68,6 @@ broadcast_index-is shape target index in' = ap (λ n. within_axes shape (drop (n
 pub IsIndex-broadcast : (shape target index : List ℕ) → can_stretch shape target ≡ true → IsIndex target index → IsIndex shape (broadcast_index shape index)
 IsIndex-broadcast shape target index can in' =
     rw (broadcast_index-is shape target index in') (IsIndex-behind (length target - length shape) shape target index can in')
-
--- ---- the shape of a stretched view
-
-with-shape : (target : List ℕ) (m : View → List ℕ → List ℕ) (there : Result View Refusal) (view : View) → there >>= (λ seen. Ok (record { shape = target; leads = m seen })) ≡ Ok view → view.shape ≡ target
-with-shape target m (Ok seen) view found = sym (ap (λ v. v.shape) (same_answer (record { shape = target; leads = m seen }) view found))
-with-shape target m (Err e) view found = absurd (false≢true (ap is_ok found))
-
-pub into-shape : (shape target : List ℕ) (view : View) → stretched_into shape target ≡ Ok view → view.shape ≡ target
-unfolding stretched_into
-into-shape shape target view found =
-    let more = axes_beyond (length target) shape in
-    with-shape target (λ seen index. replicate more 0 ++ seen.leads index) (stretched (drop more shape) target) view (check_passed (list_all (λ n. n == 1) (take more shape)) ShapesDoNotBroadcast _ view found)
 
 -- An array that is stretched to its own shape is unchanged.
 pub stretched-self : (l : Layout) → view_through (offsets l) l.shape l.shape (broadcast_index l.shape) ≡ offsets l

@@ -23,9 +23,8 @@ common-some left right rank is all =
 
 pub length-all_stretch : (shape target : List ℕ) → all_stretch shape target ≡ true → length shape ≡ length target
 length-all_stretch [] [] all = refl
-length-all_stretch [] (n ∷ target) all = absurd (false≢true all)
-length-all_stretch (m ∷ shape) [] all = absurd (false≢true all)
 length-all_stretch (m ∷ shape) (n ∷ target) all = ap suc (length-all_stretch shape target (and_parts (stretches m n) (all_stretch shape target) all).1)
+length-all_stretch _ _ all = cc
 
 -- No shape stretches to one with fewer axes.
 pub few-axes : (shape target : List ℕ) → can_stretch shape target ≡ true → length shape ≤ length target
@@ -64,13 +63,11 @@ length-common _ _ same = absurd (omega arith)
 
 all-on : (first middle last : List ℕ) → all_stretch first middle ≡ true → all_stretch middle last ≡ true → all_stretch first last ≡ true
 all-on [] [] last one two = two
-all-on [] (m ∷ middle) last one two = absurd (false≢true one)
-all-on (k ∷ first) [] last one two = absurd (false≢true one)
-all-on (k ∷ first) (m ∷ middle) [] one two = absurd (false≢true two)
 all-on (k ∷ first) (m ∷ middle) (n ∷ last) one two =
     let here = and_parts (stretches k m) (all_stretch first middle) one in
     let there = and_parts (stretches m n) (all_stretch middle last) two in
     λ i. fits-on k m n here.0 there.0 i && all-on first middle last here.1 there.1 i
+all-on _ _ _ one two = cc
 
 -- Stretching is transitive if `more` axes of length 1 come first.
 all-behind : (more : ℕ) (first middle last : List ℕ) → all_stretch first middle ≡ true → all_stretch (replicate more 1 ++ middle) last ≡ true → all_stretch (replicate more 1 ++ first) last ≡ true

@@ -22,9 +22,6 @@ lengths_of-axes [] [] same = refl
 lengths_of-axes (s ∷ strides) (n ∷ shape) same = ap (λ l. n ∷ l) (lengths_of-axes strides shape (omega arith))
 lengths_of-axes _ _ same = absurd (omega arith)
 
-pub length-axes : (strides : List ℤ) (shape : List ℕ) → length strides ≡ length shape → length (strided_axes strides shape) ≡ length shape
-length-axes strides shape same = sym (length-map (strided_axes strides shape) (λ axis. axis.len)) ∙ ap length (lengths_of-axes strides shape same)
-
 -- ---- adding an outer axis
 
 pub innermost_first : (old new : List StridedAxis) (inner : StridedAxis) → old ≡ new ++ inner ∷ [] → reverse old ≡ inner ∷ reverse new

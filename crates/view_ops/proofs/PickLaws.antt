@@ -52,9 +52,6 @@ whole_more old new axes n pick within is adds = record {
   show = map-append pick_shown adds.added (pick ∷ []) ∙ ap (λ l. l ++ pick_shown pick ∷ []) adds.show ∙ ap (λ p. map whole axes ++ p ∷ []) is ∙ sym (map-append whole axes (n ∷ []));
 }
 
-pub adds_none : (old : List AxisPick) → AddsPicks old old [] []
-adds_none old = record { added = []; after = sym (append-nil old); are = tt; show = refl }
-
 -- ---- a slice with a step is not refused
 
 pub has_step-ok : (n : ℕ) (start stop step : Option ℤ) → has_step {A = ℕ} (Slice start stop step) ≡ true → is_ok (slice_indices n start stop step) ≡ true

@@ -69,11 +69,6 @@ IsIndex-firsts _ _ are some = absurd are
 
 -- ---- the loops
 
-pub lengths_on : (picks : List AxisPick) (i : ℕ) (d : AxisPick) → i < length picks → shape_of_picks (take (i + 1) picks) ≡ shape_of_picks (take i picks) ++ axis_of (pick_shown (get_or picks i d))
-lengths_on picks i d low =
-    let pick = get_or picks i d in
-    ap shape_of_picks (take_more picks i d low) ∙ ap picked_shape (map-append pick_shown (take i picks) (pick ∷ [])) ∙ flat_map-append axis_of (map pick_shown (take i picks)) (pick_shown pick ∷ []) ∙ ap (λ l. shape_of_picks (take i picks) ++ l) (append-nil (axis_of (pick_shown pick)))
-
 -- The loop over the strides can handle a pick of axis `axis`, with the picks after it.
 pub record CanStep (strides : List ℤ) (axis : ℕ) (pick : AxisPick) (later : List AxisPick) : Type 0 where
   pub axis_in : axes_of_pick pick ≡ 1 → axis < length strides
