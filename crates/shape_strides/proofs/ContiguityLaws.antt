@@ -18,10 +18,9 @@ pub GoesUp-from_test : (item : ℕ) (addresses : List ℕ) → is_c_contiguous i
 GoesUp-from_test item addresses test = record { next = λ k below. next_from_test item addresses k test below }
 
 pub test_from_GoesUp : (item : ℕ) (addresses : List ℕ) → GoesUp item addresses → is_c_contiguous item addresses ≡ true
-test_from_GoesUp item [] up = refl
-test_from_GoesUp item (a ∷ []) up = refl
 test_from_GoesUp item (a ∷ b ∷ addresses) up =
     and_from (b == a + item) (is_c_contiguous item (b ∷ addresses)) (eq-eqb b (a + item) (up.next 0 (omega arith))) (test_from_GoesUp item (b ∷ addresses) (record { next = λ k below. up.next (suc k) (omega arith) }))
+test_from_GoesUp item _ up = refl
 
 -- the address of the k-th item
 pub address_of_place : (item : ℕ) (addresses : List ℕ) (k : ℕ) → GoesUp item addresses → k < length addresses → get_or addresses k 0 ≡ get_or addresses 0 0 + item * k
@@ -112,13 +111,12 @@ is_c-false l item axis bytes some below is long other =
 -- ---- the bytes of the axes from k on
 
 count-drop-le : (shape : List ℕ) (k : ℕ) → 0 < count shape → count (drop k shape) ≤ count shape
-count-drop-le [] zero some = omega arith
-count-drop-le [] (suc k) some = omega arith
-count-drop-le (n ∷ shape) zero some = omega arith
 count-drop-le (n ∷ shape) (suc k) some =
     let both = factors_pos n (count shape) some in
     let grown : 1 * count shape ≤ n * count shape = mul-le-mul_right (count shape) both.0 in
     omega (arith, count-drop-le shape k both.1, one-mul (count shape))
+count-drop-le [] zero some = omega arith
+count-drop-le _ _ some = omega arith
 
 -- The bytes of at most max_items items are within the largest reach of an axis.
 pub product-bound : (items bytes item : ℕ) → items ≤ max_items → item < 2 ^ 64 → bytes ≡ items * item → bytes ≤ max_reach

@@ -90,10 +90,9 @@ pub reverse-take_more : {X : Type 0} (xs : List X) (k : ℕ) (d : X) → k < len
 reverse-take_more xs k d below = ap reverse (take_more xs k d below) ∙ reverse-append (take k xs) (get_or xs k d ∷ [])
 
 pub count-take-le : (shape : List ℕ) (k : ℕ) → 0 < count shape → count (take k shape) ≤ count shape
-count-take-le [] zero some = omega arith
-count-take-le [] (suc k) some = omega arith
-count-take-le (n ∷ shape) zero some = omega arith
 count-take-le (n ∷ shape) (suc k) some = mul-le-mul_left n (count-take-le shape k (factors_pos n (count shape) some).1)
+count-take-le [] zero some = omega arith
+count-take-le _ _ some = omega arith
 
 pub f_bytes-bound : (shape : List ℕ) (k bytes item : ℕ) → 0 < count shape → count shape ≤ max_items → item < 2 ^ 64 → bytes ≡ count (reverse (take k shape)) * item → bytes ≤ max_reach
 f_bytes-bound shape k bytes item some few small is =

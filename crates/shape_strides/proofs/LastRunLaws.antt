@@ -88,9 +88,8 @@ padded-in _ _ _ some in' = absurd in'
 dot-take : (strides : List ℤ) (index : List ℕ) (k : ℕ) → length index ≤ k → dot (take k strides) index ≡ dot strides index
 dot-take strides [] zero short = sym (dot-nil strides)
 dot-take strides (i ∷ index) zero short = absurd (omega arith)
-dot-take [] index (suc k) short = refl
-dot-take (s ∷ strides) [] (suc k) short = refl
 dot-take (s ∷ strides) (i ∷ index) (suc k) short = ap (λ z. s *ℤ pos i +ℤ z) (dot-take strides index k (omega arith))
+dot-take _ _ (suc k) short = refl
 
 pub outside-axes : (shape : List ℕ) (strides : List ℤ) (offset k : ℕ) → 0 < count shape → count shape ≤ max_items → AreAxes shape strides offset → AreAxes (take k shape) (take k strides) offset
 outside-axes shape strides offset k some low axes =

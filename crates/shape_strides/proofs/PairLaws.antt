@@ -75,15 +75,11 @@ paired-second (suc most) (x ∷ xs) (y ∷ ys) even =
 
 -- The bound on the number of pairs does not matter if it is large enough.
 pub paired-enough : (most more : ℕ) (xs ys : List Run) → AreEven most xs ys → AreEven more xs ys → paired most xs ys ≡ paired more xs ys
-paired-enough zero zero xs ys even even' = refl
-paired-enough zero (suc more) [] ys even even' = refl
 paired-enough zero (suc more) (x ∷ xs) ys even even' = absurd (omega (arith, even.few, length-first x xs, even.whole.0.some))
-paired-enough (suc most) zero [] ys even even' = refl
 paired-enough (suc most) zero (x ∷ xs) ys even even' = absurd (omega (arith, even'.few, length-first x xs, even'.whole.0.some))
-paired-enough (suc most) (suc more) [] ys even even' = refl
-paired-enough (suc most) (suc more) (x ∷ xs) [] even even' = refl
 paired-enough (suc most) (suc more) (x ∷ xs) (y ∷ ys) even even' =
     ap (λ later. record { first = run_front (min x.count y.count) x; second = run_front (min x.count y.count) y } ∷ later) (paired-enough most more (cut (min x.count y.count) x xs) (cut (min x.count y.count) y ys) (even_after most x y xs ys even) (even_after more x y xs ys even'))
+paired-enough _ _ _ _ even even' = refl
 
 -- If the first n items are not the whole run, the next item is within the limit too.
 pub after-range : (run : Run) (n : ℕ) → n ≤ run.count → (run.count ≡ n → ⊥) → IsWhole run → IsInBytes (pos run.offset +ℤ run.step *ℤ pos n)
@@ -111,12 +107,11 @@ left-is (Some x) None xs xs' ys ys' head head' = sym (ap (λ l. pairs l ys) head
 left-is (Some x) (Some y) xs xs' ys ys' head head' = sym (ap (λ l. pairs l ys) head ∙ ap (pairs (x ∷ xs')) head')
 
 pub left-even : (most : ℕ) (first second : Option Run) (xs xs' ys ys' : List Run) → IsHead first xs' xs → IsHead second ys' ys → AreEven most xs ys → IsAtPair (both first second) xs' ys'
-left-even most None second xs xs' ys ys' head head' even = tt
-left-even most (Some x) None xs xs' ys ys' head head' even = tt
 left-even most (Some x) (Some y) xs xs' ys ys' head head' even =
     let there = subst (λ l. AreEven most l ys) head even in
     let here = subst (λ l. AreEven most (x ∷ xs') l) head' there in
     record { whole = here.whole; whole' = here.whole'; same = here.same; few = omega arith }
+left-even most _ _ xs xs' ys ys' head head' even = tt
 
 pub pairs-step : (x y : Run) (xs ys : List Run) → AreEven (length (all_offsets (x ∷ xs))) (x ∷ xs) (y ∷ ys) → (AreEven (length (all_offsets (cut (min x.count y.count) x xs))) (cut (min x.count y.count) x xs) (cut (min x.count y.count) y ys)) × (pairs (x ∷ xs) (y ∷ ys) ≡ record { first = run_front (min x.count y.count) x; second = run_front (min x.count y.count) y } ∷ pairs (cut (min x.count y.count) x xs) (cut (min x.count y.count) y ys))
 pairs-step x y xs ys even = at (length (all_offsets (x ∷ xs))) even (omega (arith, length-first x xs, even.whole.0.some))
@@ -200,10 +195,8 @@ unfolding run_pairs
 run_pairs-second l m same items = paired-second (length (all_offsets (runs l))) (runs l) (runs m) (even-runs l m same items) ∙ runs-offsets m
 
 paired-counts : (most : ℕ) (xs ys : List Run) → Each (λ pair. pair.first.count ≡ pair.second.count) (paired most xs ys)
-paired-counts zero xs ys = tt
-paired-counts (suc most) [] ys = tt
-paired-counts (suc most) (x ∷ xs) [] = tt
 paired-counts (suc most) (x ∷ xs) (y ∷ ys) = (refl, paired-counts most (cut (min x.count y.count) x xs) (cut (min x.count y.count) y ys))
+paired-counts _ _ _ = tt
 
 pub run_pairs-counts : (l m : Layout) → All (λ pair. pair.first.count ≡ pair.second.count) (run_pairs l m)
 unfolding run_pairs

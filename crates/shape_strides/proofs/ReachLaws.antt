@@ -17,22 +17,20 @@ axis_low (negsuc a) k n below =
 
 -- No index reaches further.
 pub dot_high : (strides : List ℤ) (shape index : List ℕ) → IsIndex shape index → dot strides index ≤ℤ pos (reach_above strides shape)
-dot_high [] shape index in' = omega (arith, ints)
-dot_high (s ∷ strides) [] [] in' = omega (arith, ints)
 dot_high (s ∷ strides) (n ∷ shape) (k ∷ index) in' =
     let first = axis_high s k n in'.0 in
     let later = dot_high strides shape index in'.1 in
     omega (arith, ints)
-dot_high (s ∷ strides) _ _ in' = absurd in'
+dot_high (s ∷ strides) [] [] in' = omega (arith, ints)
+dot_high _ _ _ in' = omega (arith, ints)
 
 pub dot_low : (strides : List ℤ) (shape index : List ℕ) → IsIndex shape index → pos 0 ≤ℤ (pos (reach_below strides shape) +ℤ dot strides index)
-dot_low [] shape index in' = omega (arith, ints)
-dot_low (s ∷ strides) [] [] in' = omega (arith, ints)
 dot_low (s ∷ strides) (n ∷ shape) (k ∷ index) in' =
     let first = axis_low s k n in'.0 in
     let later = dot_low strides shape index in'.1 in
     omega (arith, ints)
-dot_low (s ∷ strides) _ _ in' = absurd in'
+dot_low (s ∷ strides) [] [] in' = omega (arith, ints)
+dot_low _ _ _ in' = omega (arith, ints)
 
 -- There is an index that reaches this far up.
 pub top_of : (strides : List ℤ) (shape : List ℕ) → length strides ≡ length shape → 0 < count shape → (index : List ℕ) × IsIndex shape index × (dot strides index ≡ pos (reach_above strides shape))

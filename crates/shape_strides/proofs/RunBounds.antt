@@ -81,22 +81,18 @@ cut-within len item n run later low each others =
     cond_both (run.count == n) later (run_after n run ∷ later) (Each (IsRunWithin len item)) (λ _. others) (λ _. ((parts-within len item n run low each).1, others))
 
 first-within : (len item most : ℕ) (xs ys : List Run) → Each (IsRunWithin len item) xs → Each (λ pair. IsRunWithin len item pair.first) (paired most xs ys)
-first-within len item zero xs ys each = tt
-first-within len item (suc most) [] ys each = tt
-first-within len item (suc most) (x ∷ xs) [] each = tt
 first-within len item (suc most) (x ∷ xs) (y ∷ ys) each =
     let n = min x.count y.count in
     let low : n ≤ x.count = omega arith in
     ((parts-within len item n x low each.0).0, first-within len item most (cut n x xs) (cut n y ys) (cut-within len item n x xs low each.0 each.1))
+first-within len item _ _ _ each = tt
 
 second-within : (len item most : ℕ) (xs ys : List Run) → Each (IsRunWithin len item) ys → Each (λ pair. IsRunWithin len item pair.second) (paired most xs ys)
-second-within len item zero xs ys each = tt
-second-within len item (suc most) [] ys each = tt
-second-within len item (suc most) (x ∷ xs) [] each = tt
 second-within len item (suc most) (x ∷ xs) (y ∷ ys) each =
     let n = min x.count y.count in
     let low : n ≤ y.count = omega arith in
     ((parts-within len item n y low each.0).0, second-within len item most (cut n x xs) (cut n y ys) (cut-within len item n y ys low each.0 each.1))
+second-within len item _ _ _ each = tt
 
 pub run_pairs-first_lie : (l m : Layout) (len item : ℕ) → Fits l len item → All (λ pair. LieWithin (pair.first.count ∷ []) (pair.first.step ∷ []) pair.first.offset len item) (run_pairs l m)
 unfolding run_pairs

@@ -121,15 +121,13 @@ StepsBy step (a ∷ b ∷ numbers) = (b ≡ a +ℤ step) × StepsBy step (b ∷ 
 StepsBy step _ = Unit {0}
 
 StepsBy-natural : (step : ℤ) (zs : List ℤ) → NoneBelow zs → GoesBy step (map natural zs) → StepsBy step zs
-StepsBy-natural step [] none by = tt
-StepsBy-natural step (a ∷ []) none by = tt
 StepsBy-natural step (a ∷ b ∷ zs) none by =
     (sym (pos-natural b none.1.0) ∙ by.0 ∙ ap (λ z. z +ℤ step) (pos-natural a none.0), StepsBy-natural step (b ∷ zs) none.1 by.1)
+StepsBy-natural step _ none by = tt
 
 StepsBy-front : (step : ℤ) (xs ys : List ℤ) → StepsBy step (xs ++ ys) → StepsBy step xs
-StepsBy-front step [] ys by = tt
-StepsBy-front step (a ∷ []) ys by = tt
 StepsBy-front step (a ∷ b ∷ xs) ys by = (by.0, StepsBy-front step (b ∷ xs) ys by.1)
+StepsBy-front step _ ys by = tt
 
 StepsBy-tail : (step a : ℤ) (xs : List ℤ) → StepsBy step (a ∷ xs) → StepsBy step xs
 StepsBy-tail step a [] by = tt
@@ -184,14 +182,12 @@ never step at outer inner (next ∷ axes) done by =
     never step at inner next axes done.2 (StepsBy-front step (addresses at (inner ∷ next ∷ axes)) _ (subst (StepsBy step) rows.1 by))
 
 one_alone : (step at : ℤ) (axes : List StridedAxis) → IsJoined axes → StepsBy step (addresses at axes) → length (runs_from at axes) ≡ 1
-one_alone step at [] done by = refl
-one_alone step at (axis ∷ []) done by = refl
 one_alone step at (outer ∷ inner ∷ axes) done by = absurd (never step at outer inner axes done by)
+one_alone step at _ done by = refl
 
 pub HasItems-axes : (strides : List ℤ) (shape : List ℕ) → 0 < count shape → HasItems (strided_axes strides shape)
-HasItems-axes [] shape some = tt
-HasItems-axes (s ∷ strides) [] some = tt
 HasItems-axes (s ∷ strides) (n ∷ shape) some = let both = factors_pos n (count shape) some in (both.0, HasItems-axes strides shape both.1)
+HasItems-axes _ _ some = tt
 
 -- If the offsets go by one step, there is one run.
 pub runs-alone : (l : Layout) (step : ℤ) → 0 < count l.shape → GoesBy step (offsets l) → length (runs l) ≡ 1

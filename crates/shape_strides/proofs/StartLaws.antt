@@ -44,13 +44,13 @@ put-bounds axis inner old new is some low =
 -- ---- the axes from j on
 
 pub count-later : (lengths : List ℕ) (j : ℕ) → 0 < count lengths → (0 < count (drop j lengths)) × (count (drop j lengths) ≤ count lengths)
-count-later lengths zero some = (some, omega arith)
-count-later [] (suc j) some = (some, omega arith)
 count-later (n ∷ lengths) (suc j) some =
     let both = factors_pos n (count lengths) some in
     let later = count-later lengths j both.1 in
     let grown : 1 * count lengths ≤ n * count lengths = mul-le-mul_right (count lengths) both.0 in
     (later.0, omega arith)
+count-later lengths zero some = (some, omega arith)
+count-later [] (suc j) some = (some, omega arith)
 
 -- Axis j is outside of the joined axes after it.
 pub record StandsBefore (strides : List ℤ) (lengths : List ℕ) (j : ℕ) (axes : List StridedAxis) : Type 0 where

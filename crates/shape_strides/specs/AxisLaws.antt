@@ -14,9 +14,8 @@ dot-nil (s ∷ strides) = refl
 
 -- An index of zeros adds nothing.
 pub dot-zeros : (strides : List ℤ) (shape : List ℕ) → dot strides (zero_filled shape []) ≡ pos 0
-dot-zeros [] shape = refl
-dot-zeros (s ∷ strides) [] = refl
 dot-zeros (s ∷ strides) (n ∷ shape) = rw (*ℤ-zero s, dot-zeros strides shape)
+dot-zeros _ _ = refl
 
 pub rank-zeros : (shape : List ℕ) → rank shape (zero_filled shape []) ≡ 0
 rank-zeros [] = refl
