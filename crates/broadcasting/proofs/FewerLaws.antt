@@ -5,11 +5,10 @@ use Rattle.broadcasting.proofs.Words.{list_all, eqb-true, and_parts, length-drop
 -- ---- the remaining axes
 
 count-rest : (k : ℕ) (shape : List ℕ) → list_all (λ n. n == 1) (take k shape) ≡ true → count (drop k shape) ≡ count shape
-count-rest zero shape single = refl
-count-rest (suc k) [] single = refl
 count-rest (suc k) (n ∷ shape) single =
     let both = and_parts (n == 1) (list_all (λ m. m == 1) (take k shape)) single in
     count-rest k shape both.1 ∙ sym (ap (λ m. m * count shape) (eqb-true n 1 both.0) ∙ one-mul (count shape))
+count-rest _ _ single = refl
 
 pub IsShape-rest : (k : ℕ) (shape : List ℕ) → list_all (λ n. n == 1) (take k shape) ≡ true → IsShape shape → IsShape (drop k shape)
 IsShape-rest k shape single is = record {
@@ -28,10 +27,9 @@ IsIndex-front (suc k) (n ∷ shape) index single few in' =
     (omega (arith, eqb-true n 1 both.0), IsIndex-front k shape index both.1 (omega arith) in')
 
 dot-front : (k : ℕ) (strides : List ℤ) (index : List ℕ) → dot strides (replicate k 0 ++ index) ≡ dot (drop k strides) index
-dot-front zero strides index = refl
-dot-front (suc k) [] index = refl
 dot-front (suc k) (s ∷ strides) index =
     ap (λ z. z +ℤ dot strides (replicate k 0 ++ index)) (*ℤ-zero s) ∙ +ℤ_idl (dot strides (replicate k 0 ++ index)) ∙ dot-front k strides index
+dot-front _ _ index = refl
 
 -- ---- the view
 

@@ -18,17 +18,15 @@ apart_from' : (b a : ℕ) → (b == a) ≡ false → b ≢ a
 apart_from' b a test = grind (arith, nat_tests)
 
 pub length-put_at : (axes numbers over : List ℕ) → length (put_at axes numbers over) ≡ length over
-length-put_at [] numbers over = refl
-length-put_at (a ∷ axes) [] over = refl
 length-put_at (a ∷ axes) (x ∷ numbers) over = length-set (put_at axes numbers over) a x ∙ length-put_at axes numbers over
+length-put_at _ _ over = refl
 
 -- The number at any other position is unchanged.
 pub put_at-out : (axes numbers over : List ℕ) (j d : ℕ) → list_any (λ b. b == j) axes ≡ false → get_or (put_at axes numbers over) j d ≡ get_or over j d
-put_at-out [] numbers over j d none = refl
-put_at-out (a ∷ axes) [] over j d none = refl
 put_at-out (a ∷ axes) (x ∷ numbers) over j d none =
     let other = apart_from a j (or_false_left (a == j) (list_any (λ b. b == j) axes) none) in
     get_or-set_other (put_at axes numbers over) a j x d other ∙ put_at-out axes numbers over j d (or_false_right (a == j) (list_any (λ b. b == j) axes) none)
+put_at-out _ _ over j d none = refl
 
 -- ---- addresses
 
@@ -44,16 +42,13 @@ dot-set (s ∷ strides) (x ∷ xs) (suc a) k below within none =
 dot-set _ _ a k below within none = absurd (omega arith)
 
 dot-nothing : (strides : List ℤ) (n : ℕ) → dot strides (replicate n 0) ≡ pos 0
-dot-nothing [] n = refl
-dot-nothing (s ∷ strides) zero = refl
 dot-nothing (s ∷ strides) (suc n) = rw (*ℤ-zero s, dot-nothing strides n)
+dot-nothing _ _ = refl
 
 turned_sum : (a b : ℤ) → a +ℤ b ≡ b +ℤ a
 turned_sum a b = omega (arith, ints)
 
 pub dot-put_at : (strides : List ℤ) (axes numbers : List ℕ) (n : ℕ) → length strides ≡ n → AreAxes n axes → dot (map (λ a. get_or strides a (pos 0)) axes) numbers ≡ dot strides (put_at axes numbers (replicate n 0))
-dot-put_at strides [] numbers n size axes-are = sym (dot-nothing strides n)
-dot-put_at strides (a ∷ axes) [] n size are = sym (dot-nothing strides n)
 dot-put_at strides (a ∷ axes) (x ∷ numbers) n size are =
     let p = get_or strides a (pos 0) *ℤ pos x in
     let rest = put_at axes numbers (replicate n 0) in
@@ -61,6 +56,7 @@ dot-put_at strides (a ∷ axes) (x ∷ numbers) n size are =
     let none : get_or rest a 0 ≡ 0 = put_at-out axes numbers (replicate n 0) a 0 are.1 ∙ get_or-replicate n a 0 0 are.0 in
     let later = dot-put_at strides axes numbers n size are.2 in
     ap (λ z. p +ℤ z) later ∙ turned_sum p (dot strides rest) ∙ sym (dot-set strides rest a x (omega (arith, are.0)) long none)
+dot-put_at strides _ _ n size _ = sym (dot-nothing strides n)
 
 -- ---- every axis is named
 
