@@ -20,9 +20,8 @@ offsets-at l = refl
 
 -- The number before the zeros is unchanged.
 pub get_or-padded_take : (shape index : List ℕ) (j : ℕ) → IsIndex shape index → j < length shape → get_or (zero_filled shape (take (suc j) index)) j 0 ≡ get_or index j 0
-get_or-padded_take (n ∷ shape) (k ∷ index) zero in' below = refl
 get_or-padded_take (n ∷ shape) (k ∷ index) (suc j) in' below = get_or-padded_take shape index j in'.1 (omega arith)
-get_or-padded_take _ _ j in' below = absurd (omega arith)
+get_or-padded_take _ _ j in' below = omega arith
 
 pub set-padded_take : (shape index : List ℕ) (j x : ℕ) → IsIndex shape index → j < length shape → set (zero_filled shape (take (suc j) index)) j x ≡ zero_filled shape (take j index ++ x ∷ [])
 set-padded_take (n ∷ shape) (k ∷ index) zero x in' below = refl

@@ -17,10 +17,9 @@ turned_sum : (a b : ℤ) → a +ℤ (b +ℤ pos 0) ≡ b +ℤ a
 turned_sum a b = omega (arith, ints)
 
 pub dot-reverse : (strides : List ℤ) (index : List ℕ) → length strides ≡ length index → dot (reverse strides) (reverse index) ≡ dot strides index
-dot-reverse [] [] same = refl
 dot-reverse (s ∷ strides) (k ∷ index) same =
     rw (reverse-cons s strides, reverse-cons k index) (dot-append (reverse strides) (s ∷ []) (reverse index) (k ∷ []) (omega (arith, length-reverse strides, length-reverse index)) ∙ turned_sum (dot (reverse strides) (reverse index)) (s *ℤ pos k) ∙ ap (λ z. s *ℤ pos k +ℤ z) (dot-reverse strides index (omega arith)))
-dot-reverse _ _ same = absurd (omega arith)
+dot-reverse _ _ same = cc
 
 -- ---- a layout with its axes reversed
 

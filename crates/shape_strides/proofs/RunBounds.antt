@@ -1,5 +1,5 @@
 -- If a layout fits, so does each of its runs.
-use Rattle.std.proofs.Common.{◌≡◌, ℕ, zero, suc, ◌+◌, ◌-◌, ◌<◌, ◌≤◌, ◌==◌, min, ℤ, pos, ◌+ℤ◌, ◌*ℤ◌, ◌≤ℤ◌, List, [], ◌∷◌, ◌++◌, All, length, inl, inr, sym, ◌∙◌, ap, subst, arith}
+use Rattle.std.proofs.Common.{◌≡◌, ℕ, suc, ◌+◌, ◌-◌, ◌<◌, ◌≤◌, ◌==◌, min, ℤ, pos, ◌+ℤ◌, ◌*ℤ◌, ◌≤ℤ◌, List, [], ◌∷◌, ◌++◌, All, length, inl, inr, sym, ◌∙◌, ap, subst, arith}
 use Rattle.shape_strides.proofs.Words.{flat_map, Each, cases_lt, cond_both, All-from_recursion, length-map-range_with_len, get_or-map-range_with_len, +ℤ_idr, numbers_from, Layout, StridedAxis, Run, count, IsIndex, natural, address_at, LieWithin, address, Fits, strided_axes, all_joined, runs_from, runs, run_front, run_after, cut, paired, all_offsets, run_pairs, pos-natural, numbers-suc}
 use Rattle.shape_strides.proofs.JoinedLaws.{flat_map-id, addresses, addresses-joined, addresses-indexes}
 use Rattle.shape_strides.proofs.RunLaws.{NoneBelow, Each-front, Each-back, Each-indexes, numbers-natural, runs-some, runs-none}

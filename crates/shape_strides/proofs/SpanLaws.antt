@@ -17,7 +17,7 @@ sum_last : (above off o : ℕ) (d : ℤ) → pos o ≡ pos off +ℤ d → d ≡ 
 sum_last above off o d here high = omega (arith, ints)
 
 -- Each offset is the address of an index.
-entry_at : (l : Layout) (k d : ℕ) → k < length (offsets l) → (index : List ℕ) × IsIndex l.shape index × (pos (get_or (offsets l) k d) ≡ pos l.offset +ℤ dot l.strides index)
+pub entry_at : (l : Layout) (k d : ℕ) → k < length (offsets l) → (index : List ℕ) × IsIndex l.shape index × (pos (get_or (offsets l) k d) ≡ pos l.offset +ℤ dot l.strides index)
 entry_at l k d below =
     let found = index_at l.shape k (omega (arith, length-offsets l)) in
     (found.0, found.1, ap (λ r. pos (get_or (offsets l) r d)) (sym found.2) ∙ pos-offset l found.0 d found.1)

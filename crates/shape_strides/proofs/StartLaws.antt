@@ -1,6 +1,6 @@
 -- Laws of the axes outside of a run, and of how they are put together.
 use Rattle.std.proofs.Common.{◌≡◌, ℕ, zero, suc, ◌+◌, ◌-◌, ◌*◌, ◌<◌, ◌≤◌, ◌==◌, ℤ, List, [], ◌∷◌, ◌++◌, reverse, length, get_or, drop, refl, sym, ◌∙◌, ap, subst, arith, mul_assoc, mul-le-mul_left, mul-le-mul_right, one-mul, length-drop}
-use Rattle.shape_strides.proofs.Words.{cond_both, eqb-true, reverse-append, length-map, StridedAxis, max_items, count, strided_axes, leads_over, join_outside, all_joined, lengths_of, factors_pos, count-drop}
+use Rattle.shape_strides.proofs.Words.{cond_both, eqb-true, reverse-append, StridedAxis, max_items, count, strided_axes, leads_over, join_outside, all_joined, lengths_of, factors_pos, count-drop}
 
 -- ---- numbers of items
 

@@ -35,10 +35,9 @@ length-indexes (n ∷ shape) =
     length-blocks (λ k. map (λ i. k ∷ i) (indexes shape)) (count shape) (λ k. length-map (indexes shape) (λ i. k ∷ i) ∙ length-indexes shape) 0 n
 
 pub rank-lt : (shape index : List ℕ) → IsIndex shape index → rank shape index < count shape
-rank-lt [] [] in' = omega arith
 rank-lt (n ∷ shape) (k ∷ index) in' =
     omega (arith, mul-add-lt k (count shape) (rank shape index) n in'.0 (rank-lt shape index in'.1), mul_comm (count shape) n)
-rank-lt _ _ in' = absurd in'
+rank-lt _ _ in' = omega arith
 
 -- The position of an index in the list of indexes is its rank.
 pub get_or-indexes : (shape index : List ℕ) (d : List ℕ) → IsIndex shape index → get_or (indexes shape) (rank shape index) d ≡ index

@@ -23,12 +23,7 @@ returns-clause-steps c =
 
 pub returns-clause-goes : goal.returns-clause-goes
 returns-clause-goes c =
-    let w = c.self.inside in
-    let pair = c.in_ok-pair.pair in
-    let least : c.min-count.result ≡ min pair.first.count pair.second.count = omega arith in
-    let at = subst (λ at. IsAtPair at w.first w.second) c.in_ok-pair.was c.self.invariant in
-    let step = next_pair c.min-count.result pair c.after-first.result c.after-second.result w.first c.after-first.new.runs w.second c.after-second.new.runs least at c.after-first.ensures c.after-second.ensures in
-    let all = sym c.self.view_is ∙ ap (λ at. pairs_left at w.first w.second) c.in_ok-pair.was ∙ step.1 ∙ ap (λ at. record { first = run_front c.min-count.result pair.first; second = run_front c.min-count.result pair.second } ∷ pairs_left at c.after-first.new.runs c.after-second.new.runs) (sym c.both-self-inside.ensures) in
+    let all = returns-clause-steps c in
     record {
       on = λ _. (tt, tt, omega (arith, ap length all));
       keeps = tt;

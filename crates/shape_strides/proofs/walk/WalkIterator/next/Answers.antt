@@ -15,8 +15,7 @@ returns-clause-steps c =
 
 pub returns-clause-goes : goal.returns-clause-goes
 returns-clause-goes c =
-    let w = c.self.inside in
-    let step = sym c.self.view_is ∙ walk_step_at w.lengths.now w.strides.now w.start (take (length w.lengths.now) w.index) w.offset w.left c.self.invariant.0 c.self.invariant.1 (omega arith) in
+    let step = returns-clause-steps c in
     record {
       on = λ _. (tt, tt, omega (arith, ap length step));
       keeps = tt;
