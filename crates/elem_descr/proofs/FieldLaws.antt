@@ -2,35 +2,31 @@
 use Rattle.std.proofs.Common.{◌≡◌, ◌≤◌, ◌<◌, ◌+◌, ℕ, zero, suc, List, [], ◌∷◌, ◌++◌, length, map, take, drop, get_or, IfSome, slice_get, refl, sym, ap, ◌∙◌, arith}
 use Rattle.elem_descr.proofs.Words.{length-map, get_or_default, take-append_seam, drop-append-add, Descr, ScalarDescr, RecordDescr, Scalar, Field, Leaf, size, Fields, Structure, IsLegal, InOrder, field_of, fields_of, listed, before, leaf_count, IsRecord, item_size, leaves_of, leaves_from, leaves_in, fields, no_field, field_at, no_leaf, moved_leaf, LeavesInOrder, AreInOrder, entry_within, leaf_within, leaves_in_order, length-leaves_from, leaf_count-before, leaves_from-before, field_within, listed-fields_of, some_leaves}
 
--- If leaves are in order from `from` on, each of them begins at `from` or later.
-begins_after : (from : ℕ) (leaves : List Leaf) (bytes k : ℕ) (d : Leaf) → AreInOrder from leaves bytes → k < length leaves → from ≤ (get_or leaves k d).at
-begins_after from [] bytes k d order l = absurd (omega arith)
-begins_after from (leaf ∷ leaves) bytes zero d order l = order.0
-begins_after from (leaf ∷ leaves) bytes (suc k) d order l = omega (arith, order.0, begins_after (leaf.at + size leaf.scalar) leaves bytes k d order.2 (omega arith))
-
-entry_some : (from : ℕ) (leaves : List Leaf) (bytes k : ℕ) (d : Leaf) → AreInOrder from leaves bytes → k < length leaves → 1 ≤ size (get_or leaves k d).scalar
-entry_some from [] bytes k d order l = absurd (omega arith)
-entry_some from (leaf ∷ leaves) bytes zero d order l = order.1
-entry_some from (leaf ∷ leaves) bytes (suc k) d order l = entry_some (leaf.at + size leaf.scalar) leaves bytes k d order.2 (omega arith)
+-- If leaves are in order from `from` on, each of them begins at `from` or later and has at least one byte.
+entry_begins : (from : ℕ) (leaves : List Leaf) (bytes k : ℕ) (d : Leaf) → AreInOrder from leaves bytes → k < length leaves → (from ≤ (get_or leaves k d).at) × (1 ≤ size (get_or leaves k d).scalar)
+entry_begins from [] bytes k d order l = absurd (omega arith)
+entry_begins from (leaf ∷ leaves) bytes zero d order l = (order.0, order.1)
+entry_begins from (leaf ∷ leaves) bytes (suc k) d order l =
+    let later = entry_begins (leaf.at + size leaf.scalar) leaves bytes k d order.2 (omega arith) in (omega (arith, order.0, later.0), later.1)
 
 -- Of two leaves in order, the first ends at or before the offset at which the second begins.
 one_before : (from : ℕ) (leaves : List Leaf) (bytes j k : ℕ) (d : Leaf) → AreInOrder from leaves bytes → j < k → k < length leaves → (get_or leaves j d).at + size (get_or leaves j d).scalar ≤ (get_or leaves k d).at
 one_before from [] bytes j k d order less l = absurd (omega arith)
 one_before from (leaf ∷ leaves) bytes j zero d order less l = absurd (omega arith)
-one_before from (leaf ∷ leaves) bytes zero (suc k) d order less l = begins_after (leaf.at + size leaf.scalar) leaves bytes k d order.2 (omega arith)
+one_before from (leaf ∷ leaves) bytes zero (suc k) d order less l = (entry_begins (leaf.at + size leaf.scalar) leaves bytes k d order.2 (omega arith)).0
 one_before from (leaf ∷ leaves) bytes (suc j) (suc k) d order less l = one_before (leaf.at + size leaf.scalar) leaves bytes j k d order.2 (omega arith) (omega arith)
 
 -- If leaves are in order, each of them begins before `bytes`.
 pub leaf_begins : (from : ℕ) (leaves : List Leaf) (bytes k : ℕ) (leaf : Leaf) → AreInOrder from leaves bytes → k < length leaves → leaf ≡ get_or leaves k leaf → leaf.at < bytes
 leaf_begins from leaves bytes k leaf order l e =
-    let some : 1 ≤ size leaf.scalar = rw (← e) at (entry_some from leaves bytes k leaf order l) in
+    let some : 1 ≤ size leaf.scalar = rw (← e) at (entry_begins from leaves bytes k leaf order l).1 in
     omega (arith, some, leaf_within from leaves bytes k leaf order l e)
 
 -- ---- the leaves of an item
 
 in_order_apart : (descr : Descr) → AreInOrder 0 (leaves_of descr) (item_size descr) → LeavesInOrder descr
 in_order_apart descr order = record {
-  some = λ k l. entry_some 0 (leaves_of descr) (item_size descr) k no_leaf order l;
+  some = λ k l. (entry_begins 0 (leaves_of descr) (item_size descr) k no_leaf order l).1;
   within = λ k l. entry_within 0 (leaves_of descr) (item_size descr) k no_leaf order l;
   apart = λ j k less l. one_before 0 (leaves_of descr) (item_size descr) j k no_leaf order less l;
 }

@@ -3,7 +3,7 @@ use Rattle.std.proofs.Common.{◌≡◌, ◌≤◌, ◌+◌, ℕ, List, [], ◌�
 use Rattle.elem_descr.proofs.Words.{Field, Descr, ScalarDescr, RecordDescr, size, Fields, no_more, scalar_field, record_field, InOrder, AreNamedWithin, listed, before, depth, leaf_count, item_size, leaves_of, IsShallow, leaf_count-before, some_depth}
 
 -- Fields that are in order up to `bytes` are also in order up to a later end.
-InOrder-later : (from : ℕ) (fields : Fields) (bytes more : ℕ) → InOrder from fields bytes → bytes ≤ more → InOrder from fields more
+pub InOrder-later : (from : ℕ) (fields : Fields) (bytes more : ℕ) → InOrder from fields bytes → bytes ≤ more → InOrder from fields more
 InOrder-later from no_more bytes more h l = omega arith
 InOrder-later from (scalar_field name at scalar rest) bytes more h l = (h.0, h.1, InOrder-later (at + size scalar) rest bytes more h.2 l)
 InOrder-later from (record_field name at size inner rest) bytes more h l = (h.0, h.1, h.2, InOrder-later (at + size) rest bytes more h.3 l)
@@ -31,9 +31,6 @@ InOrder-push from [] bytes field h b = in_order_before from field.name field.at 
 InOrder-push from (first ∷ fields) bytes field h b =
     let parts = InOrder-begins from first.name first.at first.descr (listed fields) bytes h in
     in_order_before from first.name first.at first.descr (listed (fields ++ field ∷ [])) (field.at + item_size field.descr) parts.0 (InOrder-push (first.at + item_size first.descr) fields bytes field parts.1 b)
-
-pub InOrder-ends : (from : ℕ) (fields : List Field) (bytes more : ℕ) → InOrder from (listed fields) bytes → bytes ≤ more → InOrder from (listed fields) more
-InOrder-ends from fields bytes more h l = InOrder-later from (listed fields) bytes more h l
 
 -- A field of a record that allows `levels` levels meets these conditions.
 begins_legal : (levels bytes at : ℕ) (descr : Descr) → IsShallow levels descr → bytes ≤ at → 1 ≤ item_size descr → Begins bytes at descr

@@ -2,7 +2,7 @@
 use Rattle.std.proofs.Common.{◌≡◌, ◌≤◌, ◌<◌, ◌+◌, ℕ, Bool, true, false, List, [], ◌∷◌, ◌++◌, length, refl, IsTrue, arith, length-append, ◌||◌}
 use Rattle.elem_descr.proofs.Words.{IsDistinct, list_all, AllByRecursion, bytes_eq, list_all-append, map-append, Field, is_legal_name, IsLegal, listed, fields_of, item_size, leaves_of, Partial, IsShallow, empty, is_taken, IsPartial, names}
 use Rattle.elem_descr.proofs.FieldLaws.{fields_of-listed}
-use Rattle.elem_descr.proofs.FieldLists.{in_order_push, InOrder-ends, within_push, depth_push, leaf_count-push}
+use Rattle.elem_descr.proofs.FieldLists.{in_order_push, InOrder-later, within_push, depth_push, leaf_count-push}
 
 pub empty_partial : (levels leaves : ℕ) → levels < 4 → leaves ≤ 2048 → IsPartial (empty levels leaves)
 unfolding IsDistinct
@@ -21,9 +21,6 @@ empty_partial levels leaves few small =
       few_leaves = small;
     }
 
-named_push : (fields : List Field) (field : Field) → IsTrue (list_all is_legal_name (names fields)) → IsTrue (is_legal_name field.name) → IsTrue (list_all is_legal_name (names (fields ++ field ∷ [])))
-named_push fields field all one = rw (map-append (λ (each : Field). each.name) fields (field ∷ []), list_all-append is_legal_name (names fields) (field.name ∷ []), all, one) refl
-
 apart_push : (name : List ℕ) (fields : List Field) (field : Field) → AllByRecursion (λ other. bytes_eq name other ≡ false) (names fields) → bytes_eq name field.name ≡ false → AllByRecursion (λ other. bytes_eq name other ≡ false) (names (fields ++ field ∷ []))
 apart_push name [] field all one = (one, tt)
 apart_push name (first ∷ fields) field all one = (all.0, apart_push name fields field all.1 one)
@@ -40,13 +37,13 @@ distinct_push (first ∷ fields) field h free =
     or_false false b e = (refl, e)
 
 -- `n` more bytes of padding
-pub widened_partial : (p : Partial) (n : ℕ) → IsPartial p → p.size + n ≤ 65536 → IsPartial (record { size = p.size + n; alignment = p.alignment; leaves = p.leaves; levels = p.levels; fields = p.fields })
+pub widened_partial : (p : Partial) (n : ℕ) → IsPartial p → p.size + n ≤ 65536 → IsPartial (record p { size = p.size + n })
 widened_partial p n h small =
     record {
       few = h.few;
       small = small;
       aligned = h.aligned;
-      in_order = InOrder-ends 0 p.fields p.size (p.size + n) h.in_order (omega arith);
+      in_order = InOrder-later 0 (listed p.fields) p.size (p.size + n) h.in_order (omega arith);
       named = h.named;
       distinct = h.distinct;
       within = h.within;
@@ -74,7 +71,7 @@ partial_push p field aligned h may a =
       small = may.within;
       aligned = a;
       in_order = in_order_push p.levels p.fields p.size field h.in_order may.shallow may.later may.some;
-      named = named_push p.fields field h.named may.legal;
+      named = rw (map-append (λ (each : Field). each.name) p.fields (field ∷ []), list_all-append is_legal_name (names p.fields) (field.name ∷ []), h.named, may.legal) refl;
       distinct = distinct_push p.fields field h.distinct may.free;
       within = within_push p.levels p.fields field h.within may.shallow;
       deep = h.deep;
@@ -83,18 +80,15 @@ partial_push p field aligned h may a =
       few_leaves = may.few_leaves;
     }
 
-named_all : (fields back : List Field) → back ≡ fields → 1 ≤ length fields → length fields ≤ 64 → IsTrue (list_all is_legal_name (names fields)) → IsDistinct bytes_eq (names fields) → (1 ≤ length back) × (length back ≤ 64) × IsTrue (list_all is_legal_name (names back)) × IsDistinct bytes_eq (names back)
-named_all fields back e some few named distinct = rw e (some, few, named, distinct)
-
 -- The complete record is legal.
 pub closed_legal : (p : Partial) (bytes : ℕ) → IsPartial p → 1 ≤ length p.fields → p.size ≤ bytes → bytes ≤ 65536 → IsLegal (record { size = bytes; fields = listed p.fields })
 closed_legal p bytes h some within small =
-    let all = named_all p.fields (fields_of (listed p.fields)) (fields_of-listed p.fields) some h.few h.named h.distinct in
+    let same = fields_of-listed p.fields in
     record {
       small = small;
       shallow = omega (arith, h.shallow, h.deep);
       few = omega (arith, h.counted, h.few_leaves);
-      in_order = InOrder-ends 0 p.fields p.size bytes h.in_order within;
-      named = record { some = all.0; few = all.1; named = all.2; distinct = all.3 };
+      in_order = InOrder-later 0 (listed p.fields) p.size bytes h.in_order within;
+      named = record { some = rw same some; few = rw same h.few; named = rw same h.named; distinct = rw same h.distinct };
       within = h.within;
     }

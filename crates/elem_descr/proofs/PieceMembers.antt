@@ -129,22 +129,11 @@ abbrev pub Plain : Mark → List ℕ → Type 0
 Plain mark [] = Unit {0}
 Plain mark (b ∷ rest) = (after mark b ≡ None) × (is_one_of (125 ∷ []) b ≡ false)
 
-last_digit_read : (mark : Mark) (later : Then) (text : List ℕ) → LastDigit text → front mark later (pieces text) ≡ Err BadDescriptor
-last_digit_read mark later text is = ap (front mark later) is.is ∙ ap (λ r. r >>= λ part. later part is.more) (digit_part mark is.digits is.last is.digit)
-
-fits_nowhere : (mark : Mark) (later : Then) (digits text : List ℕ) → list_all is_ascii_digit digits ≡ true → CountsNothing (pieces text) → front mark later (pieces text) ≡ Err BadDescriptor → front mark later (pieces (digits ++ text)) ≡ Err BadDescriptor
-fits_nowhere mark later [] text all nothing_counted bad = bad
-fits_nowhere mark later (d ∷ digits) text all nothing_counted bad = last_digit_read mark later (d ∷ (digits ++ text)) (last_digit d digits text all nothing_counted)
-
-colon_met : (mark : Mark) (later : Then) (digits rest : List ℕ) → list_all is_ascii_digit digits ≡ true → front mark later (pieces (digits ++ 58 ∷ rest)) ≡ Err BadDescriptor
-colon_met mark later digits rest all =
-    let is = pieces-colon 58 rest refl in
-    fits_nowhere mark later digits (58 ∷ rest) all (subst CountsNothing (sym is) (λ d. refl)) (ap (front mark later) is)
-
-brace_met : (mark : Mark) (later : Then) (digits rest : List ℕ) → list_all is_ascii_digit digits ≡ true → front mark later (pieces (digits ++ 123 ∷ rest)) ≡ Err BadDescriptor
-brace_met mark later digits rest all =
-    let is = pieces-byte 123 rest refl in
-    fits_nowhere mark later digits (123 ∷ rest) all (subst CountsNothing (sym is) (λ d. refl)) (ap (front mark later) is)
+fits_nowhere : (mark : Mark) (later : Then) (digits text : List ℕ) (more : List Piece) → list_all is_ascii_digit digits ≡ true → pieces text ≡ more → CountsNothing more → front mark later more ≡ Err BadDescriptor → front mark later (pieces (digits ++ text)) ≡ Err BadDescriptor
+fits_nowhere mark later [] text more all is nothing_counted bad = ap (front mark later) is ∙ bad
+fits_nowhere mark later (d ∷ digits) text more all is nothing_counted bad =
+    let last = last_digit d digits text all (subst CountsNothing (sym is) nothing_counted) in
+    ap (front mark later) last.is ∙ ap (λ r. r >>= λ part. later part last.more) (digit_part mark last.digits last.last last.digit)
 
 opening_met : (mark : Mark) (later : Then) (digits text : List ℕ) → list_all is_ascii_digit digits ≡ true → front mark later (pieces (digits ++ 84 ∷ (123 ∷ text))) ≡ (after_count mark digits (84 ∷ (123 ∷ text)) >>= meant later)
 opening_met mark later digits text all = ap (front mark later) (pieces-digits_opening digits (84 ∷ (123 ∷ text)) (pieces text) all (pieces-opening text)) ∙ counted digits
@@ -167,13 +156,13 @@ letter_met mark later digits b rest all plain colon brac digit bare =
 
 -- digits, and what follows them
 digits_met : (mark : Mark) (later : Then) (digits text : List ℕ) → list_all is_ascii_digit digits ≡ true → begins_with_digit text ≡ false → Plain mark (digits ++ text) → front mark later (pieces (digits ++ text)) ≡ (after_count mark digits text >>= meant later)
-digits_met mark later digits [] all stops plain = fits_nowhere mark later digits [] all (λ d. refl) refl
+digits_met mark later digits [] all stops plain = fits_nowhere mark later digits [] [] all refl (λ d. refl) refl
 digits_met mark later digits (b ∷ rest) all stops plain =
     elim (cases_Bool (is_colon b)) [
-      | inl colon ↦ at_byte 58 (one_of_one 58 b colon) (colon_met mark later digits rest all)
+      | inl colon ↦ at_byte 58 (one_of_one 58 b colon) (fits_nowhere mark later digits (58 ∷ rest) _ all (pieces-colon 58 rest refl) (λ d. refl) refl)
       | inr other ↦
           elim (cases_Bool (is_one_of (123 ∷ []) b)) [
-            | inl brac ↦ at_byte 123 (one_of_one 123 b brac) (brace_met mark later digits rest all)
+            | inl brac ↦ at_byte 123 (one_of_one 123 b brac) (fits_nowhere mark later digits (123 ∷ rest) _ all (pieces-byte 123 rest refl) (λ d. refl) refl)
             | inr nor ↦
                 elim (cases_Bool (is_one_of (84 ∷ []) b && is_opened rest)) [
                   | inl opens ↦ let h = and_parts (is_one_of (84 ∷ []) b) (is_opened rest) opens in at_byte 84 (one_of_one 84 b h.0) (opened_at rest h.1)

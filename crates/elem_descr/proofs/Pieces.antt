@@ -88,23 +88,27 @@ pieces-byte b text e = rw e (onto (cut_at_colons text).0 (cut_at_colons text).1)
 
 -- ---- a letter and what follows it
 
-digit_behind : (b d : ℕ) (more : List Piece) → letter_onto b (digit_onto d more) ≡ letter [] b nothing ∷ digit_onto d more
-digit_behind b d [] = refl
-digit_behind b d (letter digits c behind ∷ more) = refl
-digit_behind b d (opening digits ∷ more) = refl
-digit_behind b d (brace ∷ more) = refl
-digit_behind b d (stray behind ∷ more) = refl
+-- the first piece of some pieces, and those after it; a letter before them is a piece of its own
+abbrev First : List Piece → Type 0
+First some = (piece : Piece) × (more : List Piece) × (some ≡ piece ∷ more) × ((b : ℕ) → letter_onto b some ≡ letter [] b nothing ∷ some)
 
-letter_behind : (b c : ℕ) (more : List Piece) → letter_onto b (letter_onto c more) ≡ letter [] b nothing ∷ letter_onto c more
-letter_behind b c [] = refl
-letter_behind b c (letter digits d behind ∷ more) = refl
-letter_behind b c (opening digits ∷ more) = refl
-letter_behind b c (brace ∷ more) = by_test (is_one_of (84 ∷ []) c)
+digit_first : (d : ℕ) (more : List Piece) → First (digit_onto d more)
+digit_first d [] = (letter [] d nothing, [], refl, λ b. refl)
+digit_first d (letter digits c name ∷ more) = (letter (d ∷ digits) c name, more, refl, λ b. refl)
+digit_first d (opening digits ∷ more) = (opening (d ∷ digits), more, refl, λ b. refl)
+digit_first d (brace ∷ more) = (letter [] d nothing, brace ∷ more, refl, λ b. refl)
+digit_first d (stray name ∷ more) = (letter [] d nothing, stray name ∷ more, refl, λ b. refl)
+
+letter_first : (c : ℕ) (more : List Piece) → First (letter_onto c more)
+letter_first c [] = (letter [] c nothing, [], refl, λ b. refl)
+letter_first c (letter digits d name ∷ more) = (letter [] c nothing, letter digits d name ∷ more, refl, λ b. refl)
+letter_first c (opening digits ∷ more) = (letter [] c nothing, opening digits ∷ more, refl, λ b. refl)
+letter_first c (brace ∷ more) = by_test (is_one_of (84 ∷ []) c)
   where
-    by_test : (t : Bool) → letter_onto b (if t then opening [] ∷ more else letter [] c nothing ∷ (brace ∷ more)) ≡ letter [] b nothing ∷ (if t then opening [] ∷ more else letter [] c nothing ∷ (brace ∷ more))
-    by_test true = refl
-    by_test false = refl
-letter_behind b c (stray behind ∷ more) = refl
+    by_test : (t : Bool) → First (if t then opening [] ∷ more else letter [] c nothing ∷ (brace ∷ more))
+    by_test true = (opening [], more, refl, λ b. refl)
+    by_test false = (letter [] c nothing, brace ∷ more, refl, λ b. refl)
+letter_first c (stray name ∷ more) = (letter [] c name, more, refl, λ b. refl)
 
 left_false : (x : Bool) → (x && true) ≡ false → x ≡ false
 left_false true e = e
@@ -115,14 +119,8 @@ byte_behind b c more bare = by_tests (is_one_of (123 ∷ []) c) (is_ascii_digit 
   where
     by_tests : (brac digit : Bool) → (is_one_of (84 ∷ []) b && brac) ≡ false → letter_onto b (if brac then brace ∷ more else if digit then digit_onto c more else letter_onto c more) ≡ letter [] b nothing ∷ (if brac then brace ∷ more else if digit then digit_onto c more else letter_onto c more)
     by_tests true digit bare = let other = left_false (is_one_of (84 ∷ []) b) bare in rw other refl
-    by_tests false true bare = digit_behind b c more
-    by_tests false false bare = letter_behind b c more
-
-byte_letter : (b : ℕ) (more : List Piece) → is_one_of (123 ∷ []) b ≡ false → is_ascii_digit b ≡ false → byte_onto b more ≡ letter_onto b more
-byte_letter b more brac digit = rw (brac, digit) refl
-
-byte_digit : (d : ℕ) (more : List Piece) → is_one_of (123 ∷ []) d ≡ false → is_ascii_digit d ≡ true → byte_onto d more ≡ digit_onto d more
-byte_digit d more brac digit = rw (brac, digit) refl
+    by_tests false true bare = (digit_first c more).3 b
+    by_tests false false bare = (letter_first c more).3 b
 
 pub behind-colon : (b : ℕ) (text : List ℕ) → is_colon b ≡ true → behind (b ∷ text) ≡ behind_colon (name_end text)
 behind-colon b text e = rw e refl
@@ -147,21 +145,20 @@ letter_then b (c ∷ text) bare = by_first (is_colon c) refl
         ∙ ap (joined (letter [] b)) (sym (behind-other c text e))
 
 pub pieces-letter : (b : ℕ) (text : List ℕ) → is_colon b ≡ false → is_one_of (123 ∷ []) b ≡ false → is_ascii_digit b ≡ false → (is_one_of (84 ∷ []) b && is_opened text) ≡ false → pieces (b ∷ text) ≡ letter [] b (behind text).0 ∷ pieces (behind text).1
-pieces-letter b text colon brac digit bare = pieces-byte b text colon ∙ byte_letter b (pieces text) brac digit ∙ letter_then b text bare
+pieces-letter b text colon brac digit bare =
+    let bare_byte : byte_onto b (pieces text) ≡ letter_onto b (pieces text) = rw (brac, digit) refl in
+    pieces-byte b text colon ∙ bare_byte ∙ letter_then b text bare
 
 pub pieces-opening : (text : List ℕ) → pieces (84 ∷ (123 ∷ text)) ≡ opening [] ∷ pieces text
 pieces-opening text = pieces-byte 84 (123 ∷ text) refl ∙ ap (byte_onto 84) (pieces-byte 123 text refl)
 
 -- ---- digits
 
-digit_colon : (d : ℕ) → is_ascii_digit d ≡ true → is_colon d ≡ false
-digit_colon d e = grind (arith, nat_tests)
-
-digit_brace : (d : ℕ) → is_ascii_digit d ≡ true → is_one_of (123 ∷ []) d ≡ false
-digit_brace d e = grind (arith, nat_tests)
-
 pieces-digit : (d : ℕ) (text : List ℕ) → is_ascii_digit d ≡ true → pieces (d ∷ text) ≡ digit_onto d (pieces text)
-pieces-digit d text e = pieces-byte d text (digit_colon d e) ∙ byte_digit d (pieces text) (digit_brace d e) e
+pieces-digit d text e =
+    let colon : is_colon d ≡ false = grind (arith, nat_tests) in
+    let brac : is_one_of (123 ∷ []) d ≡ false = grind (arith, nat_tests) in
+    pieces-byte d text colon ∙ rw (brac, e) refl
 
 pub pieces-digits_letter : (digits text : List ℕ) (b : ℕ) (behind : Behind) (more : List Piece) → list_all is_ascii_digit digits ≡ true → pieces text ≡ letter [] b behind ∷ more → pieces (digits ++ text) ≡ letter digits b behind ∷ more
 pieces-digits_letter [] text b behind more all is = is
@@ -197,34 +194,10 @@ last_digit d (e ∷ digits) text all nothing_counted =
 
 -- ---- a byte other than a colon begins a piece
 
-abbrev First : List Piece → Type 0
-First some = (piece : Piece) × (more : List Piece) × (some ≡ piece ∷ more)
-
-digit_first : (d : ℕ) (more : List Piece) → First (digit_onto d more)
-digit_first d [] = (letter [] d nothing, [], refl)
-digit_first d (letter digits b name ∷ more) = (letter (d ∷ digits) b name, more, refl)
-digit_first d (opening digits ∷ more) = (opening (d ∷ digits), more, refl)
-digit_first d (brace ∷ more) = (letter [] d nothing, brace ∷ more, refl)
-digit_first d (stray name ∷ more) = (letter [] d nothing, stray name ∷ more, refl)
-
-letter_first : (b : ℕ) (more : List Piece) → First (letter_onto b more)
-letter_first b [] = (letter [] b nothing, [], refl)
-letter_first b (letter digits c name ∷ more) = (letter [] b nothing, letter digits c name ∷ more, refl)
-letter_first b (opening digits ∷ more) = (letter [] b nothing, opening digits ∷ more, refl)
-letter_first b (brace ∷ more) = by_test (is_one_of (84 ∷ []) b)
-  where
-    by_test : (t : Bool) → First (if t then opening [] ∷ more else letter [] b nothing ∷ (brace ∷ more))
-    by_test true = (opening [], more, refl)
-    by_test false = (letter [] b nothing, brace ∷ more, refl)
-letter_first b (stray name ∷ more) = (letter [] b name, more, refl)
-
-byte_first : (b : ℕ) (more : List Piece) → First (byte_onto b more)
-byte_first b more = by_tests (is_one_of (123 ∷ []) b) (is_ascii_digit b)
-  where
-    by_tests : (brac digit : Bool) → First (if brac then brace ∷ more else if digit then digit_onto b more else letter_onto b more)
-    by_tests true digit = (brace, more, refl)
-    by_tests false true = digit_first b more
-    by_tests false false = letter_first b more
-
 pub some_piece : (b : ℕ) (text : List ℕ) → is_colon b ≡ false → (piece : Piece) × (more : List Piece) × (pieces (b ∷ text) ≡ piece ∷ more)
-some_piece b text e = let first = byte_first b (pieces text) in (first.0, first.1, pieces-byte b text e ∙ first.2)
+some_piece b text e = let first = by_tests (is_one_of (123 ∷ []) b) (is_ascii_digit b) (pieces text) in (first.0, first.1, pieces-byte b text e ∙ first.2)
+  where
+    by_tests : (brac digit : Bool) (more : List Piece) → (piece : Piece) × (rest : List Piece) × ((if brac then brace ∷ more else if digit then digit_onto b more else letter_onto b more) ≡ piece ∷ rest)
+    by_tests true digit more = (brace, more, refl)
+    by_tests false true more = let first = digit_first b more in (first.0, first.1, first.2)
+    by_tests false false more = let first = letter_first b more in (first.0, first.1, first.2)

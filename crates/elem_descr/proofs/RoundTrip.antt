@@ -6,7 +6,7 @@ use Rattle.elem_descr.proofs.FieldLists.{within_behind, depth-before}
 use Rattle.elem_descr.proofs.PieceMembers.{one_of_one}
 use Rattle.elem_descr.proofs.Binds.{after_ok}
 use Rattle.elem_descr.proofs.SameFormat.{same_format}
-use Rattle.elem_descr.proofs.WrittenMembers.{mark_of, marked_digits, after_letter, reads_scalar, reads_pad, reads_name}
+use Rattle.elem_descr.proofs.WrittenMembers.{mark_of, marked_digits, reads_scalar, reads_pad, reads_name}
 
 unaligned : (scalar : Scalar) → aligned_to (mark_of scalar) (own_alignment scalar) ≡ 1
 unfolding mark_of
@@ -35,7 +35,7 @@ record MayGrow (leaves from : ℕ) (done : List Field) (name : List ℕ) (descr 
 reads_field : (within : Reader) (levels leaves from : ℕ) (done : List Field) (name : List ℕ) (scalar : Scalar) (rest : List ℕ) → MayGrow leaves from done name (ScalarDescr scalar) → next_field within (mark_of scalar) (packed levels leaves from done) (written_count scalar ++ (written_letter scalar ++ (58 ∷ (name ++ 58 ∷ rest)))) ≡ Ok (grown levels leaves from done name (ScalarDescr scalar), mark_of scalar, rest)
 unfolding next_field scalar_in
 reads_field within levels leaves from done name scalar rest may =
-    let member = reads_scalar scalar (58 ∷ (name ++ 58 ∷ rest)) may.some (omega (arith, may.small)) in
+    let member = (reads_scalar (mark_of scalar) scalar (58 ∷ (name ++ 58 ∷ rest)) may.some (omega (arith, may.small))).1 in
     let called = reads_name (length done) name rest may.legal in
     let allowed = name_ok (packed levels leaves from done) name may.new may.few in
     let added = added_ok levels leaves from done name (aligned_to (mark_of scalar) (own_alignment scalar)) (ScalarDescr scalar) (unaligned scalar) may.counted may.small in
@@ -105,32 +105,23 @@ reads_padding within (suc n) levels leaves from mark done rest r small unnamed m
     (reads_more within mark mark mark (packed levels leaves from done) (packed levels leaves (from + suc n) done) (decimal (suc n) ++ 120 ∷ rest) (decimal (suc n) ++ 120 ∷ rest) rest r (marked_digits mark (decimal (suc n)) (120 ∷ rest) digits some)
     (reads_gap within mark (suc n) levels leaves from done rest small unnamed) (omega (arith, length-append (decimal (suc n)) (120 ∷ rest))) more)
 
-shorter : (a b c name rest : List ℕ) → length rest < length (a ++ (b ++ (c ++ (58 ∷ (name ++ 58 ∷ rest)))))
-shorter a b c name rest = simp length-append (omega arith)
-
 -- a scalar and what follows it
 reads_one : (within : Reader) (mark : Mark) (levels leaves from : ℕ) (done : List Field) (name : List ℕ) (scalar : Scalar) (rest : List ℕ) (r : Body × List ℕ) → MayGrow leaves from done name (ScalarDescr scalar) → Reads within (mark_of scalar) (grown levels leaves from done name (ScalarDescr scalar)) rest r → Reads within mark (packed levels leaves from done) (written_scalar scalar ++ (written_name name ++ rest)) r
 reads_one within mark levels leaves from done name scalar rest r may more =
     let tail = 58 ∷ (name ++ 58 ∷ rest) in
     let text : written_scalar scalar ++ (written_name name ++ rest) ≡ written_mark scalar ++ (written_count scalar ++ (written_letter scalar ++ tail)) = simp append_assoc in
     rw text
-    (reads_more within mark (mark_of scalar) (mark_of scalar) (packed levels leaves from done) (grown levels leaves from done name (ScalarDescr scalar)) (written_mark scalar ++ (written_count scalar ++ (written_letter scalar ++ tail))) (written_count scalar ++ (written_letter scalar ++ tail)) rest r (after_letter mark scalar tail may.some (omega (arith, may.small)))
-    (reads_field within levels leaves from done name scalar rest may) (shorter (written_mark scalar) (written_count scalar) (written_letter scalar) name rest) more)
-
-name_text : (name rest : List ℕ) → written_name name ++ rest ≡ 58 ∷ (name ++ 58 ∷ rest)
-name_text name rest = ap (λ (t : List ℕ). 58 ∷ t) (append_assoc name (58 ∷ []) rest)
+    (reads_more within mark (mark_of scalar) (mark_of scalar) (packed levels leaves from done) (grown levels leaves from done name (ScalarDescr scalar)) (written_mark scalar ++ (written_count scalar ++ (written_letter scalar ++ tail))) (written_count scalar ++ (written_letter scalar ++ tail)) rest r (reads_scalar mark scalar tail may.some (omega (arith, may.small))).0
+    (reads_field within levels leaves from done name scalar rest may) (simp length-append (omega arith)) more)
 
 -- a record and what follows it
 reads_within : (within : Reader) (mark later : Mark) (levels leaves from : ℕ) (done : List Field) (name : List ℕ) (structure : Structure) (text rest : List ℕ) (r : Body × List ℕ) → MayGrow leaves from done name (RecordDescr structure) → within mark leaves (text ++ 125 ∷ (58 ∷ (name ++ 58 ∷ rest))) ≡ Ok (record { whole = structure; alignment = 1; mark = later }, 58 ∷ (name ++ 58 ∷ rest)) → Reads within later (grown levels leaves from done name (RecordDescr structure)) rest r → Reads within mark (packed levels leaves from done) (braced text ++ (written_name name ++ rest)) r
 reads_within within mark later levels leaves from done name structure text rest r may body more =
     let inner = text ++ 125 ∷ (58 ∷ (name ++ 58 ∷ rest)) in
-    let joined : braced text ++ (written_name name ++ rest) ≡ 84 ∷ (123 ∷ inner) = ap (λ (t : List ℕ). 84 ∷ (123 ∷ t)) (append_assoc text (125 ∷ []) (written_name name ++ rest) ∙ ap (λ (t : List ℕ). text ++ 125 ∷ t) (name_text name rest)) in
+    let joined : braced text ++ (written_name name ++ rest) ≡ 84 ∷ (123 ∷ inner) = simp append_assoc in
     let Goal : List ℕ → Type 0 = λ t. Reads within mark (packed levels leaves from done) t r in
     subst Goal (sym joined)
-    (reads_more within mark mark later (packed levels leaves from done) (grown levels leaves from done name (RecordDescr structure)) (84 ∷ (123 ∷ inner)) (84 ∷ (123 ∷ inner)) rest r refl (reads_body within mark later levels leaves from done name structure inner rest may body) (longer text name rest) more)
-  where
-    longer : (text name rest : List ℕ) → length rest < length (84 ∷ (123 ∷ (text ++ 125 ∷ (58 ∷ (name ++ 58 ∷ rest)))))
-    longer text name rest = simp length-append (omega arith)
+    (reads_more within mark mark later (packed levels leaves from done) (grown levels leaves from done name (RecordDescr structure)) (84 ∷ (123 ∷ inner)) (84 ∷ (123 ∷ inner)) rest r refl (reads_body within mark later levels leaves from done name structure inner rest may body) (simp length-append (omega arith)) more)
 
 unnamed_scalar : (scalar : Scalar) (rest : List ℕ) → is_named (written_scalar scalar ++ rest) ≡ false
 unnamed_scalar BoolScalar rest = refl
@@ -156,9 +147,6 @@ record MayRead (levels leaves from bytes : ℕ) (done : List Field) (fields : Fi
   within : AreNamedWithin fields
   shallow : depth fields ≤ 1 + levels
   counted : leaves + leaf_count fields ≤ 2048
-
-four : (a b c d e : List ℕ) → (a ++ (b ++ (c ++ d))) ++ e ≡ a ++ (b ++ (c ++ (d ++ e)))
-four a b c d e = simp append_assoc
 
 -- the next field meets the conditions to follow
 next_grows : (levels leaves from bytes at : ℕ) (done : List Field) (name : List ℕ) (descr : Descr) (rest : List Field) → 1 ≤ item_size descr → at + item_size descr ≤ 65536 → is_legal_name name ≡ true → length done + (1 + length rest) ≤ 64 → IsDistinct bytes_eq (names (done ++ field_of name at descr ∷ rest)) → leaves + length (leaves_of descr) ≤ 2048 → MayGrow leaves at done name descr
@@ -227,7 +215,7 @@ reads_fields (scalar_field name at scalar more) levels mark leaves from bytes do
     let join = append_assoc done (field_of name at descr ∷ []) (fields_of more) in
     let later = reads_fields more levels (mark_of scalar) (leaves + 1) (at + size scalar) bytes (done ++ field_of name at descr ∷ []) rest (behind_one levels leaves from bytes at done name descr more may) in
     let one = reads_one (record_within levels) mark levels leaves at done name scalar tail result grows (rw join at later) in
-    let text : written_fields from (scalar_field name at scalar more) bytes ++ 125 ∷ rest ≡ written_pad (at - from) ++ (written_scalar scalar ++ (written_name name ++ tail)) = four (written_pad (at - from)) (written_scalar scalar) (written_name name) (written_fields (at + size scalar) more bytes) (125 ∷ rest) in
+    let text : written_fields from (scalar_field name at scalar more) bytes ++ 125 ∷ rest ≡ written_pad (at - from) ++ (written_scalar scalar ++ (written_name name ++ tail)) = simp append_assoc in
     let Goal : List ℕ → Type 0 = λ t. Reads (record_within levels) mark (packed levels leaves from done) t result in
     subst Goal (sym text) (reads_padding (record_within levels) (at - from) levels leaves from mark done (written_scalar scalar ++ (written_name name ++ tail)) result (omega (arith, may.small)) (unnamed_scalar scalar (written_name name ++ tail)) (rw gap one))
 reads_fields (record_field name at size inner more) zero mark leaves from bytes done rest may = absurd (omega (arith, may.shallow, some_depth inner))
@@ -247,7 +235,7 @@ reads_fields (record_field name at size inner more) (suc levels) mark leaves fro
     let same = listed-fields_of inner in
     let body = reads_inner levels mark behind leaves (written_fields 0 inner size ++ 125 ∷ (58 ∷ (name ++ 58 ∷ tail))) (58 ∷ (name ++ 58 ∷ tail)) structure (rw same at members) in
     let one = reads_within (record_within (suc levels)) mark behind (suc levels) leaves at done name structure (written_fields 0 inner size) tail result grows body (rw join at later) in
-    let text : written_fields from (record_field name at size inner more) bytes ++ 125 ∷ rest ≡ written_pad (at - from) ++ (braced (written_fields 0 inner size) ++ (written_name name ++ tail)) = four (written_pad (at - from)) (braced (written_fields 0 inner size)) (written_name name) (written_fields (at + size) more bytes) (125 ∷ rest) in
+    let text : written_fields from (record_field name at size inner more) bytes ++ 125 ∷ rest ≡ written_pad (at - from) ++ (braced (written_fields 0 inner size) ++ (written_name name ++ tail)) = simp append_assoc in
     let Goal : List ℕ → Type 0 = λ t. Reads (record_within (suc levels)) mark (packed (suc levels) leaves from done) t result in
     subst Goal (sym text) (reads_padding (record_within (suc levels)) (at - from) (suc levels) leaves from mark done (braced (written_fields 0 inner size) ++ (written_name name ++ tail)) result (omega (arith, may.small)) refl (rw gap one))
 
@@ -272,15 +260,12 @@ reads_record s h =
     let body = reads_inner 3 Aligned (mark_behind Aligned s.fields) 0 text [] s (rw same at (reads_fields s.fields 3 Aligned 0 0 s.size [] [] may)) in
     after_ok _ _ _ body
 
--- the descriptor after its marks
-abbrev unmarked_format : Mark × List ℕ → Result Descr Refusal
-unmarked_format m = held_at (member_at m.0 m.1) >>= λ member. alone m.0 member.0 member.1
-
 reads_scalar_alone : (scalar : Scalar) → 1 ≤ size scalar → size scalar ≤ 65536 → format_in_turns (written_format (ScalarDescr scalar)) ≡ Ok (ScalarDescr scalar)
 unfolding scalar_alone nothing_follows
 reads_scalar_alone scalar some small =
     let text : written_scalar scalar ≡ written_mark scalar ++ (written_count scalar ++ (written_letter scalar ++ [])) = simp (append_assoc, append-nil) in
-    ap format_in_turns text ∙ ap unmarked_format (after_letter Aligned scalar [] some small) ∙ after_ok _ _ _ (reads_scalar scalar [] some small)
+    let reads = reads_scalar Aligned scalar [] some small in
+    ap format_in_turns text ∙ ap (λ (m : Mark × List ℕ). held_at (member_at m.0 m.1) >>= λ member. alone m.0 member.0 member.1) reads.0 ∙ after_ok _ _ _ reads.1
 
 -- a descriptor that is a scalar
 pub reads_scalar_back : (descr : Descr) (scalar : Scalar) → descr ≡ ScalarDescr scalar → 1 ≤ size scalar → size scalar ≤ 65536 → format (written_format descr) ≡ Ok descr

@@ -256,11 +256,8 @@ keeps_added : (p : Partial) (bytes : List ℕ) (alignment : ℕ) (descr : Descr)
 unfolding added
 keeps_added p bytes alignment descr = keeps_bind p (check (nat_le (p.leaves + length (leaves_of descr)) 2048) TooLarge) (λ _. if_small (with_field p bytes alignment descr)) (λ _. keeps_small p (with_field p bytes alignment descr) (nat_le (with_field p bytes alignment descr).size 65536) refl)
 
-keeps_scalar : (mark : Mark) (p : Partial) (scalar : Scalar) (behind : Behind) → Keeps p (with_scalar mark p scalar behind)
-keeps_scalar mark p scalar behind = keeps_bind p (next_name p behind) _ (λ bytes. keeps_added p bytes (aligned_to mark (own_alignment scalar)) (ScalarDescr scalar))
-
-keeps_record : (mark : Mark) (p : Partial) (body : Body) (behind : Behind) → Keeps p (with_record mark p body behind)
-keeps_record mark p body behind = keeps_bind p (next_name p behind) _ (λ bytes. keeps_added p bytes (aligned_to mark body.alignment) (RecordDescr body.whole))
+keeps_named : (p : Partial) (behind : Behind) (alignment : ℕ) (descr : Descr) → Keeps p (next_name p behind >>= λ bytes. added p bytes alignment descr)
+keeps_named p behind alignment descr = keeps_bind p (next_name p behind) _ (λ bytes. keeps_added p bytes alignment descr)
 
 keeps_pad : (p : Partial) (n : ℕ) (behind : Behind) → Keeps p (with_pad p n behind)
 unfolding widened
@@ -305,13 +302,13 @@ opened_same n same (suc levels) turns around text ends few enough goes mark p in
     let later : Ends = λ body. (body_then body >>= others (suc levels) turns) >>= ends in
     let read_members = members (record_within levels) (length inner) mark (empty levels p.leaves) inner in
     same levels (length inner) mark (empty levels p.leaves) ((mark, p) ∷ around) inner later (omega arith) (omega arith) refl
-    (λ body rest l. others_same n same (suc levels) turns around text ends few enough goes body.mark p rest level (omega arith) (with_record mark p body (behind rest).0) (keeps_record mark p body (behind rest).0)
+    (λ body rest l. others_same n same (suc levels) turns around text ends few enough goes body.mark p rest level (omega arith) (with_record mark p body (behind rest).0) (keeps_named p (behind rest).0 (aligned_to mark body.alignment) (RecordDescr body.whole))
     ∙ ap (λ r. (r >>= others (suc levels) turns) >>= ends) (sym (body_same mark p body rest)))
     ∙ bind_three read_members body_then (others (suc levels) turns) ends
 
 taken_same : (n : ℕ) → Same n → (levels turns : ℕ) (around : List (Mark × Partial)) (text : List ℕ) (ends : Ends) → length text ≤ suc n → length text ≤ suc turns → Goes around text ends → (mark : Mark) (p : Partial) (it : Member) (rest : List ℕ) → p.levels ≡ levels → length rest < length text → met (then_in mark p around) it rest ≡ ((taken_in (record_within levels) mark p (as_held it) rest >>= others levels turns) >>= ends)
 taken_same n same levels turns around text ends few enough goes mark p (Value scalar) rest level less =
-    others_same n same levels turns around text ends few enough goes mark p rest level less (with_scalar mark p scalar (behind rest).0) (keeps_scalar mark p scalar (behind rest).0)
+    others_same n same levels turns around text ends few enough goes mark p rest level less (with_scalar mark p scalar (behind rest).0) (keeps_named p (behind rest).0 (aligned_to mark (own_alignment scalar)) (ScalarDescr scalar))
     ∙ ap (λ r. (r >>= others levels turns) >>= ends) (sym (scalar_same mark p scalar rest))
 taken_same n same levels turns around text ends few enough goes mark p (Pad count) rest level less =
     others_same n same levels turns around text ends few enough goes mark p rest level less (with_pad p count (behind rest).0) (keeps_pad p count (behind rest).0)

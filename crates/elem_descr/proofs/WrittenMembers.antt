@@ -11,40 +11,18 @@ prefix_len-passing p (x ∷ xs) y ys all fails =
     let b = and_parts (p x) (list_all p xs) all in
     rw b.0 (omega (arith, prefix_len-passing p xs y ys b.1 fails))
 
--- a digit is not a mark and not a blank
-after_digit : (mark : Mark) (d : ℕ) → is_ascii_digit d ≡ true → after mark d ≡ None
-after_digit mark d e = grind (arith, nat_tests)
-
--- digits are not marks
+-- digits are not marks and not blanks
 pub marked_digits : (mark : Mark) (digits rest : List ℕ) → list_all is_ascii_digit digits ≡ true → 0 < length digits → marked mark (digits ++ rest) ≡ (mark, digits ++ rest)
 marked_digits mark [] rest all some = absurd (omega arith)
 marked_digits mark (d ∷ digits) rest all some =
-    rw (after_digit mark d (and_parts (is_ascii_digit d) (list_all is_ascii_digit digits) all).0) refl
+    let first = (and_parts (is_ascii_digit d) (list_all is_ascii_digit digits) all).0 in
+    let plain : after mark d ≡ None = grind (arith, nat_tests) in
+    rw plain refl
 
 -- the mark that is written for a scalar
 unfoldable pub mark_of : Scalar → Mark
 mark_of (Int signed width Big) = BigMark
 mark_of scalar = LittleMark
-
-pub after_letter : (mark : Mark) (scalar : Scalar) (rest : List ℕ) → 1 ≤ size scalar → size scalar ≤ 65536 → marked mark (written_mark scalar ++ (written_count scalar ++ (written_letter scalar ++ rest))) ≡ (mark_of scalar, written_count scalar ++ (written_letter scalar ++ rest))
-unfolding mark_of
-after_letter mark BoolScalar rest some small = refl
-after_letter mark (Byte true) rest some small = refl
-after_letter mark (Byte false) rest some small = refl
-after_letter mark (Int true Two Little) rest some small = refl
-after_letter mark (Int true Two Big) rest some small = refl
-after_letter mark (Int true Four Little) rest some small = refl
-after_letter mark (Int true Four Big) rest some small = refl
-after_letter mark (Int true Eight Little) rest some small = refl
-after_letter mark (Int true Eight Big) rest some small = refl
-after_letter mark (Int false Two Little) rest some small = refl
-after_letter mark (Int false Two Big) rest some small = refl
-after_letter mark (Int false Four Little) rest some small = refl
-after_letter mark (Int false Four Big) rest some small = refl
-after_letter mark (Int false Eight Little) rest some small = refl
-after_letter mark (Int false Eight Big) rest some small = refl
-after_letter mark (Bytes n) rest some small =
-    marked_digits LittleMark (decimal n) (115 ∷ rest) (digits-decimal n (omega arith)) (decimal_nonempty n (omega arith))
 
 -- digits count as their value
 count_of-digits : (digits : List ℕ) → 1 ≤ length digits → count_of digits ≡ value_of digits
@@ -63,47 +41,45 @@ text_member-some : (n : ℕ) → 1 ≤ n → text_member n ≡ Ok (Value (Bytes 
 text_member-some zero some = absurd (omega arith)
 text_member-some (suc n) some = refl
 
--- a member without its name
-pub reads_scalar : (scalar : Scalar) (rest : List ℕ) → 1 ≤ size scalar → size scalar ≤ 65536 → held_at (member_at (mark_of scalar) (written_count scalar ++ (written_letter scalar ++ rest))) ≡ Ok (held.Value (Some scalar), rest)
+-- a scalar without its name: its mark, and then its count and its letter
+pub reads_scalar : (mark : Mark) (scalar : Scalar) (rest : List ℕ) → 1 ≤ size scalar → size scalar ≤ 65536 →
+    (let text = written_count scalar ++ (written_letter scalar ++ rest) in (marked mark (written_mark scalar ++ text) ≡ (mark_of scalar, text)) × (held_at (member_at (mark_of scalar) text) ≡ Ok (held.Value (Some scalar), rest)))
 unfolding mark_of
-reads_scalar BoolScalar rest some small = refl
-reads_scalar (Byte true) rest some small = refl
-reads_scalar (Byte false) rest some small = refl
-reads_scalar (Int true Two Little) rest some small = refl
-reads_scalar (Int true Two Big) rest some small = refl
-reads_scalar (Int true Four Little) rest some small = refl
-reads_scalar (Int true Four Big) rest some small = refl
-reads_scalar (Int true Eight Little) rest some small = refl
-reads_scalar (Int true Eight Big) rest some small = refl
-reads_scalar (Int false Two Little) rest some small = refl
-reads_scalar (Int false Two Big) rest some small = refl
-reads_scalar (Int false Four Little) rest some small = refl
-reads_scalar (Int false Four Big) rest some small = refl
-reads_scalar (Int false Eight Little) rest some small = refl
-reads_scalar (Int false Eight Big) rest some small = refl
-reads_scalar (Bytes n) rest some small =
-    ap held_at (count_and_letter LittleMark n 115 rest small refl) ∙ rw (count_of-decimal n small, text_member-some n some, le-leb n 65536 small) refl
+reads_scalar mark BoolScalar rest some small = (refl, refl)
+reads_scalar mark (Byte true) rest some small = (refl, refl)
+reads_scalar mark (Byte false) rest some small = (refl, refl)
+reads_scalar mark (Int true Two Little) rest some small = (refl, refl)
+reads_scalar mark (Int true Two Big) rest some small = (refl, refl)
+reads_scalar mark (Int true Four Little) rest some small = (refl, refl)
+reads_scalar mark (Int true Four Big) rest some small = (refl, refl)
+reads_scalar mark (Int true Eight Little) rest some small = (refl, refl)
+reads_scalar mark (Int true Eight Big) rest some small = (refl, refl)
+reads_scalar mark (Int false Two Little) rest some small = (refl, refl)
+reads_scalar mark (Int false Two Big) rest some small = (refl, refl)
+reads_scalar mark (Int false Four Little) rest some small = (refl, refl)
+reads_scalar mark (Int false Four Big) rest some small = (refl, refl)
+reads_scalar mark (Int false Eight Little) rest some small = (refl, refl)
+reads_scalar mark (Int false Eight Big) rest some small = (refl, refl)
+reads_scalar mark (Bytes n) rest some small = (
+  marked_digits LittleMark (decimal n) (115 ∷ rest) (digits-decimal n (omega arith)) (decimal_nonempty n (omega arith)),
+  ap held_at (count_and_letter LittleMark n 115 rest small refl) ∙ rw (count_of-decimal n small, text_member-some n some, le-leb n 65536 small) refl,
+)
 
 pub reads_pad : (mark : Mark) (n : ℕ) (rest : List ℕ) → n ≤ 65536 → held_at (member_at mark (decimal n ++ 120 ∷ rest)) ≡ Ok (held.Pad n, rest)
 reads_pad mark n rest small =
     let fits : min n 65537 ≡ n = min-eq_left (omega (arith, small)) in
     ap held_at (count_and_letter mark n 120 rest small refl) ∙ rw (count_of-decimal n small, fits) refl
 
--- a byte of a name is not a colon
-colonless : (b : ℕ) → is_field_name_byte b ≡ true → not (is_colon b) ≡ true
-colonless b e = grind (arith, nat_tests)
-
+-- no byte of a name is a colon
 colonless_name : (name : List ℕ) → list_all is_field_name_byte name ≡ true → list_all (λ b. not (is_colon b)) name ≡ true
 colonless_name [] all = refl
 colonless_name (b ∷ name) all =
     let h = and_parts (is_field_name_byte b) (list_all is_field_name_byte name) all in
-    rw (colonless b h.0) (colonless_name name h.1)
+    let other : not (is_colon b) ≡ true = grind (arith, nat_tests) in
+    rw other (colonless_name name h.1)
 
-reads_name_at : (name rest : List ℕ) → is_legal_name name ≡ true → name_at (name ++ 58 ∷ rest) ≡ Ok (name, rest)
-reads_name_at name rest legal =
+pub reads_name : (number : ℕ) (name rest : List ℕ) → is_legal_name name ≡ true → named number (58 ∷ (name ++ 58 ∷ rest)) ≡ Ok (name, rest)
+reads_name number name rest legal =
     let bytes = (and_parts (nat_le 1 (length name) && nat_le (length name) 64) (list_all is_field_name_byte name) legal).1 in
     let front = prefix_len-passing (λ b. not (is_colon b)) name 58 rest (colonless_name name bytes) refl in
     rw (front, take-append_seam name (58 ∷ rest), drop-append_seam name (58 ∷ rest), some_left 58 rest, legal) refl
-
-pub reads_name : (number : ℕ) (name rest : List ℕ) → is_legal_name name ≡ true → named number (58 ∷ (name ++ 58 ∷ rest)) ≡ Ok (name, rest)
-reads_name number name rest legal = reads_name_at name rest legal

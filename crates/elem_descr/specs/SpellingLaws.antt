@@ -22,12 +22,6 @@ four = decimal_digit 4 (lit< tt)
 pub eight : decimal 8 ≡ 56 ∷ []
 eight = decimal_digit 8 (lit< tt)
 
-legal_length : (n : ℕ) → 1 ≤ n → n ≤ 65536 → of_length n ≡ Ok (Bytes n)
-legal_length n some small = rw (ne_eqb n 0 (λ none. omega (arith, none)), le-leb n 65536 small) refl
-
-reads_length : (n : ℕ) → 1 ≤ n → n ≤ 65536 → byte_string (decimal n) ≡ Ok (Bytes n)
-reads_length n some small = rw (digits-decimal n (omega arith), value_of-decimal n (omega arith)) (legal_length n some small)
-
 pub reads_spelling : (scalar : Scalar) → 1 ≤ size scalar → size scalar ≤ 65536 → typestr (spelling scalar) ≡ Ok scalar
 reads_spelling BoolScalar some small = rw one refl
 reads_spelling (Byte true) some small = rw one refl
@@ -44,4 +38,5 @@ reads_spelling (Int false Four Little) some small = rw four refl
 reads_spelling (Int false Four Big) some small = rw four refl
 reads_spelling (Int false Eight Little) some small = rw eight refl
 reads_spelling (Int false Eight Big) some small = rw eight refl
-reads_spelling (Bytes n) some small = reads_length n some small
+reads_spelling (Bytes n) some small =
+    rw (digits-decimal n (omega arith), value_of-decimal n (omega arith), ne_eqb n 0 (λ none. omega (arith, none)), le-leb n 65536 small) refl

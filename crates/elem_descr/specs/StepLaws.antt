@@ -65,25 +65,19 @@ before_back step stop number below = rw (lt_true step (pos 0) below) refl
 before_forth : (step stop number : ℤ) → pos 0 ≤ℤ step → is_before step stop number ≡ int_lt number stop
 before_forth step stop number above = rw (lt_false step (pos 0) above) refl
 
-back_in : (start stop d : ℤ) (m gap : ℕ) → d ≡ neg_ℤ (pos m) → pos gap ≡ int_max (start -ℤ stop) (pos 0) → m < gap → (stop <ℤ (start +ℤ d)) × ((start +ℤ d) ≤ℤ start)
-back_in start stop d m gap is far low = (omega (arith, ints, clamps), omega (arith, ints, clamps))
-
-back_out : (start stop d : ℤ) (m gap : ℕ) → d ≡ neg_ℤ (pos m) → pos gap ≡ int_max (start -ℤ stop) (pos 0) → gap ≤ m → (start +ℤ d) ≤ℤ stop
-back_out start stop d m gap is far low = omega (arith, ints, clamps)
-
-forth_in : (start stop d : ℤ) (m gap : ℕ) → d ≡ pos m → pos gap ≡ int_max (stop -ℤ start) (pos 0) → m < gap → (start ≤ℤ (start +ℤ d)) × ((start +ℤ d) <ℤ stop)
-forth_in start stop d m gap is far low = (omega (arith, ints, clamps), omega (arith, ints, clamps))
-
-forth_out : (start stop d : ℤ) (m gap : ℕ) → d ≡ pos m → pos gap ≡ int_max (stop -ℤ start) (pos 0) → gap ≤ m → stop ≤ℤ (start +ℤ d)
-forth_out start stop d m gap is far low = omega (arith, ints, clamps)
-
 -- If the step is negative, a number within the gap is above the stop and at most the start.
 pub between_back : (gap : ℕ) (start stop step : ℤ) (k : ℕ) → IsGap gap start stop step → k * unsigned_abs step < gap → step <ℤ pos 0 → (stop <ℤ (start +ℤ step *ℤ pos k)) × ((start +ℤ step *ℤ pos k) ≤ℤ start)
-between_back gap start stop step k is near below = back_in start stop (step *ℤ pos k) (k * unsigned_abs step) gap (product_back step k below) (is.back below) near
+between_back gap start stop step k is near below =
+    let product = product_back step k below in
+    let far = is.back below in
+    (omega (arith, ints, clamps), omega (arith, ints, clamps))
 
 -- If the step is not negative, a number within the gap is at least the start and below the stop.
 pub between_forth : (gap : ℕ) (start stop step : ℤ) (k : ℕ) → IsGap gap start stop step → k * unsigned_abs step < gap → pos 0 ≤ℤ step → (start ≤ℤ (start +ℤ step *ℤ pos k)) × ((start +ℤ step *ℤ pos k) <ℤ stop)
-between_forth gap start stop step k is near above = forth_in start stop (step *ℤ pos k) (k * unsigned_abs step) gap (product_forth step k above) (is.forth above) near
+between_forth gap start stop step k is near above =
+    let product = product_forth step k above in
+    let far = is.forth above in
+    (omega (arith, ints, clamps), omega (arith, ints, clamps))
 
 pub near_before : (gap : ℕ) (start stop step : ℤ) (k : ℕ) → IsGap gap start stop step → k * unsigned_abs step < gap → is_before step stop (start +ℤ step *ℤ pos k) ≡ true
 near_before gap start stop step k is near =
@@ -94,8 +88,8 @@ near_before gap start stop step k is near =
 pub far_after : (gap : ℕ) (start stop step : ℤ) (k : ℕ) → IsGap gap start stop step → gap ≤ k * unsigned_abs step → is_before step stop (start +ℤ step *ℤ pos k) ≡ false
 far_after gap start stop step k is far =
     by_lt_z step (pos 0)
-    (λ below. before_back step stop (start +ℤ step *ℤ pos k) below ∙ lt_false stop (start +ℤ step *ℤ pos k) (back_out start stop (step *ℤ pos k) (k * unsigned_abs step) gap (product_back step k below) (is.back below) far))
-    (λ above. before_forth step stop (start +ℤ step *ℤ pos k) above ∙ lt_false (start +ℤ step *ℤ pos k) stop (forth_out start stop (step *ℤ pos k) (k * unsigned_abs step) gap (product_forth step k above) (is.forth above) far))
+    (λ below. before_back step stop (start +ℤ step *ℤ pos k) below ∙ lt_false stop (start +ℤ step *ℤ pos k) (omega (arith, ints, clamps, product_back step k below, is.back below)))
+    (λ above. before_forth step stop (start +ℤ step *ℤ pos k) above ∙ lt_false (start +ℤ step *ℤ pos k) stop (omega (arith, ints, clamps, product_forth step k above, is.forth above)))
 
 -- ---- how many numbers are before the stop
 

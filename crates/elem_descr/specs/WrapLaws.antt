@@ -6,10 +6,6 @@ use Rattle.elem_descr.specs.Encoding.{low_bits, integer, FitsBytes, DifferByMult
 use Rattle.elem_descr.specs.inside.Signs.{with_sign}
 use Rattle.elem_descr.specs.EncodingLaws.{by_sign, low_bits-lt}
 
--- 2 ^ 128 as a product of two powers
-split_128 : (n : ℕ) → n ≤ 16 → 2 ^ (128 - 8 * n) * 2 ^ (8 * n) ≡ 2 ^ 128
-split_128 n small = let e : (128 - 8 * n) + 8 * n ≡ 128 = omega arith in sym (pow-add 2 (128 - 8 * n) (8 * n)) ∙ ap (λ (k : ℕ). 2 ^ k) e
-
 above : (a m : ℕ) → suc a ≤ m → negsuc a +ℤ pos m ≡ pos (m - suc a)
 above a m l = omega (arith, ints)
 
@@ -17,7 +13,8 @@ above a m l = omega (arith, ints)
 pub low_bits-128 : (n : ℕ) (z : ℤ) → n ≤ 16 → FitsSigned w128 z → low_bytes w128 n z ≡ low_bits n z
 low_bits-128 n (pos a) small fits = refl
 low_bits-128 n (negsuc a) small fits =
-    let whole = split_128 n small in
+    let all : (128 - 8 * n) + 8 * n ≡ 128 = omega arith in
+    let whole : 2 ^ (128 - 8 * n) * 2 ^ (8 * n) ≡ 2 ^ 128 = sym (pow-add 2 (128 - 8 * n) (8 * n)) ∙ ap (λ (k : ℕ). 2 ^ k) all in
     let sum : negsuc a +ℤ pos (2 ^ (128 - 8 * n) * 2 ^ (8 * n)) ≡ pos (cast_unsigned w128 (negsuc a)) = ap (λ (m : ℕ). negsuc a +ℤ pos m) whole ∙ above a (2 ^ 128) (omega arith) in
     sym (ap unsigned_abs (int_rem_euclid_is (negsuc a) (pos (2 ^ (8 * n))) (2 ^ (8 * n)) (2 ^ (128 - 8 * n)) _ (pow_pos (8 * n)) refl sum))
 
