@@ -1,5 +1,5 @@
 -- Fields and their literals, one by one.
-use Rattle.std.proofs.Common.{◌≡◌, ◌+◌, ◌<◌, ◌≤◌, ℕ, Bool, true, false, List, [], ◌∷◌, ◌++◌, length, get_or, take, drop, map, min, replicate, refl, sym, ap, ◌∙◌, arith, ◌&&◌}
+use Rattle.std.proofs.Common.{◌≡◌, ◌+◌, ◌<◌, ◌≤◌, ℕ, Bool, true, false, List, [], ◌∷◌, ◌++◌, length, get_or, take, drop, map, min, replicate, refl, sym, ap, ◌∙◌, arith, ◌&&◌, subst}
 use Rattle.literal_items.proofs.Words.{drop_all, and_parts, Leaf, Scalar, Byte, Int, Descr, Field, LeafValue, text, width_size, low_bits, wrap, without_nuls, Fields, no_more, scalar_field, record_field, Structure, before, listed, fields_of, InOrder, IsLegal, item_size, moved_leaf, leaves_of, leaves_from, AreInOrder, encode_item, decode_item, decode_encode, rest_at, field_within, seen_fields, leaves_from-before, leaves_from-moved, Little, length-bytes_of, length-padded, ScalarLiteral, Literal, Values, no_values, scalar_value, record_value, value_before, all_values, literals_of, listed_literals_of, BoolScalar, BytesScalar, ScalarDescr, RecordDescr, ScalarOf, RecordOf, literal_number, literal_bytes, leaf_value, stand_for, can_hold, field_values, can_be_item, values_of, stands_for, can_be_field, field_value, put_leaves}
 use Rattle.literal_items.proofs.Nuls.{bytes_encoded, bytes_read_back}
 use Rattle.literal_items.proofs.Leaves.{ReadsBack, AreSound, AreSound-append, put_leaves-append, put_encoded, put_read}
@@ -114,15 +114,12 @@ leaves_sound (leaf ∷ leaves) literal = (leaf_sound leaf.scalar literal, leaves
 pub record_leaves : (by : ℕ) (fields : Fields) → map (moved_leaf by) (leaves_from 0 fields) ≡ leaves_from by fields
 record_leaves by fields = let none : by + 0 ≡ by = omega arith in sym (leaves_from-moved by 0 fields) ∙ ap (λ start. leaves_from start fields) none
 
-sound_along : (leaves others : List Leaf) (values : List LeafValue) → leaves ≡ others → AreSound leaves values → AreSound others values
-sound_along leaves others values same sound = rw (← same) sound
-
 field_sound : (by : ℕ) (descr : Descr) (literal : Literal) → can_be_field descr literal ≡ true → AreSound (map (moved_leaf by) (leaves_of descr)) (field_value descr literal)
 field_sound by (ScalarDescr scalar) (ScalarOf literal) can = (leaf_sound scalar literal, tt)
 field_sound by (ScalarDescr scalar) (RecordOf literals) can = cc
 field_sound by (RecordDescr structure) (ScalarOf literal) can = cc
 field_sound by (RecordDescr structure) (RecordOf literals) can =
-    sound_along (leaves_from by structure.fields) (map (moved_leaf by) (leaves_from 0 structure.fields)) (field_values structure.fields literals) (sym (record_leaves by structure.fields)) (fields_sound by structure.fields literals can)
+    subst (λ leaves. AreSound leaves (field_values structure.fields literals)) (sym (record_leaves by structure.fields)) (fields_sound by structure.fields literals can)
 
 -- the bytes of each value have the size of its leaf, and read back as the value
 pub item_sound : (descr : Descr) (literal : Literal) → can_be_item descr literal ≡ true → AreSound (leaves_of descr) (values_of descr literal)

@@ -1,5 +1,6 @@
 -- The leaves of an item, each with its value.
 use Rattle.std.proofs.Common.{◌≡◌, ◌+◌, ◌-◌, ◌≤◌, ℕ, suc, List, [], ◌∷◌, ◌++◌, length, take, drop, map, replicate, refl, sym, ap, ◌∙◌, arith, append_assoc, length-append}
+use Rattle.std.proofs.Math.Seq.{take-append-add, drop-append-add}
 use Rattle.literal_items.proofs.Words.{AllZip, length-replicate, take_at, drop_at, take-replicate, drop-replicate, Leaf, Scalar, LeafValue, size, encode, decode, AreInOrder, encode_from, AreInOrder-within, put, put_leaves}
 
 -- the bytes of a value have the size of the scalar, and read back as the value
@@ -26,22 +27,10 @@ put_leaves-append item (leaf ∷ leaves) (value ∷ values) later others sound =
 
 -- ---- bytes put over zeros
 
-take_past : (front bytes : List ℕ) (k : ℕ) → take (length front + k) (front ++ bytes) ≡ front ++ take k bytes
-take_past [] bytes k = ap (λ n. take n bytes) (omega arith)
-take_past (b ∷ front) bytes k =
-    let more : suc (length front) + k ≡ suc (length front + k) = omega arith in
-    ap (λ n. take n (b ∷ front ++ bytes)) more ∙ ap (λ back. b ∷ back) (take_past front bytes k)
-
-drop_past : (front bytes : List ℕ) (k : ℕ) → drop (length front + k) (front ++ bytes) ≡ drop k bytes
-drop_past [] bytes k = ap (λ n. drop n bytes) (omega arith)
-drop_past (b ∷ front) bytes k =
-    let more : suc (length front) + k ≡ suc (length front + k) = omega arith in
-    ap (λ n. drop n (b ∷ front ++ bytes)) more ∙ drop_past front bytes k
-
 put_past : (front bytes item : List ℕ) (at k width : ℕ) → at ≡ length front + k → put at width item (front ++ bytes) ≡ front ++ put k width item bytes
 put_past front bytes item at k width is =
     ap (λ n. put n width item (front ++ bytes)) is
-    ∙ (λ i. take_past front bytes k i ++ (item ++ drop width (drop_past front bytes k i)))
+    ∙ (λ i. take-append-add front bytes k i ++ (item ++ drop width (drop-append-add front bytes k i)))
     ∙ append_assoc front (take k bytes) (item ++ drop width (drop k bytes))
 
 put_zeros : (n at width : ℕ) (item : List ℕ) → at ≤ n → put at width item (replicate n 0) ≡ (replicate at 0 ++ item) ++ replicate (n - at - width) 0

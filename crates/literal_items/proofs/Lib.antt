@@ -1,7 +1,6 @@
 pub mod Words
 pub mod Nuls
 pub mod Lists
-pub mod Decided
 pub mod Leaves
 pub mod Fields
 pub mod Blocked

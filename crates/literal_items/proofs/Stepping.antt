@@ -1,7 +1,7 @@
 -- The numbers of a range.
-use Rattle.std.proofs.Common.{◌≡◌, ◌≢◌, ◌^◌, Bool, List, [], ◌∷◌, length, map, Result, Ok, Err, ◌↔◌, ℕ, ◌+◌, ◌*◌, ◌%◌, ◌<◌, ◌≤◌, true, false, ℤ, pos, unsigned_abs, ◌+ℤ◌, ◌-ℤ◌, ◌*ℤ◌, ◌≤ℤ◌, inl, inr, lit<, sym, ap, ◌∙◌, arith, FitsSigned, not, nat_le}
+use Rattle.std.proofs.Common.{◌≡◌, ◌≢◌, ◌^◌, Bool, List, [], ◌∷◌, length, map, Result, Ok, Err, ◌↔◌, ℕ, ◌+◌, ◌*◌, ◌%◌, ◌<◌, ◌≤◌, true, false, ℤ, pos, unsigned_abs, ◌+ℤ◌, ◌-ℤ◌, ◌*ℤ◌, ◌≤ℤ◌, inl, inr, lit<, refl, sym, ap, ◌∙◌, arith, FitsSigned, not, nat_le}
 use Rattle.literal_items.proofs.Words.{cases_lt, cases_Bool, Decides-int_eq, nat_tests, list_all, Refusal, LiteralOutOfRange, TooLarge, ZeroStep, Scalar, ◌>>=◌, check, is_before, numbers_from, IsGap, LeafValue, number, CountsSteps, steps_end_below, abs_pos, between_back, between_forth, near_before, far_after, counted_within, stepped_first, length-numbers_from, is_value, max_items, int_eq, *ℤ_comm, mod-lt, ints, clamps, by_lt_z, to_z-of_z, wrapping_add_onto, wrapping_mul_onto, int_wrap-add_left, int_wrap_fits, w128, int_wrap, div_ceil, cast_signed, cast_unsigned, range_count, range_numbers, range_length, range_items}
-use Rattle.literal_items.proofs.Decided.{decided_first, decided_second, decided_ok}
+use Rattle.std.proofs.lemmas.Bool.{false_from_ne_true, le-leb, lt-leb}
 
 -- ---- the count is a quotient, rounded up
 
@@ -51,44 +51,32 @@ module _ (gap : ℕ) (start stop step : ℤ) (some : step ≢ pos 0) (is : IsGap
 
 -- ---- the outcome
 
-not_equal : (a b : ℤ) → a ≢ b → not (int_eq a b) ≡ true
-not_equal a b other = elim (cases_Bool (int_eq a b)) [ inl same ↦ absurd (other ((Decides-int_eq a b).0 same)) | inr apart ↦ ap not apart ]
-
-equal : (a b : ℤ) → a ≡ b → not (int_eq a b) ≡ false
-equal a b same = ap not ((Decides-int_eq a b).1 same)
-
-within : (n : ℕ) → n ≤ max_items → nat_le n max_items ≡ true
-within n few = grind (arith, nat_tests)
-
-beyond : (n : ℕ) → max_items < n → nat_le n max_items ≡ false
-beyond n many = grind (arith, nat_tests)
+differs : (step : ℤ) → step ≢ pos 0 → int_eq step (pos 0) ≡ false
+differs step some = false_from_ne_true (int_eq step (pos 0)) (λ same. some ((Decides-int_eq step (pos 0)).0 same))
 
 pub range_length-zero : (start stop step : ℤ) → step ≡ pos 0 → range_length start stop step ≡ Err ZeroStep
 unfolding range_length
-range_length-zero start stop step none = decided_first (not (int_eq step (pos 0))) (nat_le (range_count start stop step) max_items) ZeroStep TooLarge (range_count start stop step) (equal step (pos 0) none)
+range_length-zero start stop step none = rw ((Decides-int_eq step (pos 0)).1 none) refl
 
 pub range_length-large : (start stop step : ℤ) (n : ℕ) → step ≢ pos 0 → n ≡ range_count start stop step → max_items < n → range_length start stop step ≡ Err TooLarge
 unfolding range_length
-range_length-large start stop step n some is many = decided_second (not (int_eq step (pos 0))) (nat_le (range_count start stop step) max_items) ZeroStep TooLarge (range_count start stop step) (not_equal step (pos 0) some) (ap (λ m. nat_le m max_items) (sym is) ∙ beyond n many)
+range_length-large start stop step n some is many = rw (differs step some, ← is, lt-leb n max_items many) refl
 
 pub range_length-ok : (start stop step : ℤ) (n : ℕ) → step ≢ pos 0 → n ≡ range_count start stop step → n ≤ max_items → range_length start stop step ≡ Ok n
 unfolding range_length
-range_length-ok start stop step n some is few = decided_ok (not (int_eq step (pos 0))) (nat_le (range_count start stop step) max_items) ZeroStep TooLarge (range_count start stop step) n (not_equal step (pos 0) some) (ap (λ m. nat_le m max_items) (sym is) ∙ within n few) (sym is)
-
-abbrev ranged : {A : Type 0} → Result ℕ Refusal → Bool → A → Result A Refusal
-ranged length b x = length >>= λ _. (check b LiteralOutOfRange >>= λ _. Ok x)
+range_length-ok start stop step n some is few = rw (differs step some, ← is, le-leb n max_items few) refl
 
 pub range_items-refused : (scalar : Scalar) (start stop step : ℤ) (r : Refusal) → range_length start stop step ≡ Err r → range_items scalar start stop step ≡ Err r
 unfolding range_items
-range_items-refused scalar start stop step r is = ap (λ length. ranged length (list_all (is_value scalar) (range_numbers start stop step)) (map (λ value. number value ∷ []) (range_numbers start stop step))) is
+range_items-refused scalar start stop step r is = rw is refl
 
 pub range_items-beyond : (scalar : Scalar) (start stop step : ℤ) (n : ℕ) → range_length start stop step ≡ Ok n → list_all (is_value scalar) (range_numbers start stop step) ≡ false → range_items scalar start stop step ≡ Err LiteralOutOfRange
 unfolding range_items
-range_items-beyond scalar start stop step n is fails = λ i. ranged (is i) (fails i) (map (λ value. number value ∷ []) (range_numbers start stop step))
+range_items-beyond scalar start stop step n is fails = rw (is, fails) refl
 
 pub range_items-ok : (scalar : Scalar) (start stop step : ℤ) (n : ℕ) (items : List (List LeafValue)) → range_length start stop step ≡ Ok n → list_all (is_value scalar) (range_numbers start stop step) ≡ true → map (λ value. number value ∷ []) (range_numbers start stop step) ≡ items → range_items scalar start stop step ≡ Ok items
 unfolding range_items
-range_items-ok scalar start stop step n items is so are = λ i. ranged (is i) (so i) (are i)
+range_items-ok scalar start stop step n items is so are = rw (is, so, are) refl
 
 -- ---- the next number
 

@@ -1,6 +1,6 @@
 use Rattle.std.proofs.Common.{sym, ap, ◌∙◌, arith}
 use Rattle.literal_items.proofs.Words.{total, listed, weight, weight-one, seen_fields, all_values, stand_for, passes}
-use Rattle.literal_items.proofs.Lists.{not_true}
+use Rattle.std.proofs.lemmas.Bool.{false_from_ne_true}
 use Rattle.literal_items.proofs.Fields.{IsTurn, turn_fails, turn_passes, none_left, stand_for-record, stand_for-length}
 use Rattle.literal_items.proofs.literal_item.+stand_for.Goals as goal
 
@@ -17,7 +17,7 @@ stands_for-returns-in-Record-Record t c =
 
 pub stand_for-returns-then-fields-literals : goal.stand_for-returns-then-fields-literals
 stand_for-returns-then-fields-literals t c =
-    sym (not_true (stand_for (passes c.args.test) (listed c.args.fields.now) (all_values c.args.literals.now)) (λ can. c.if-fields-literals.true (stand_for-length (passes c.args.test) c.args.fields.now c.args.literals.now can)))
+    sym (false_from_ne_true (stand_for (passes c.args.test) (listed c.args.fields.now) (all_values c.args.literals.now)) (λ can. c.if-fields-literals.true (stand_for-length (passes c.args.test) c.args.fields.now c.args.literals.now can)))
 
 pub stand_for-stands_for-requires : goal.stand_for-stands_for-requires
 stand_for-stands_for-requires t c =
