@@ -2,7 +2,7 @@
 use Rattle.std.proofs.Common.{Option, ◌≡◌, ℕ, ◌+◌, ◌-◌, ◌<◌, ◌≤◌, pos, ◌+ℤ◌, ◌*ℤ◌, List, ◌++◌, codes, map, length, drop, get_or, refl, sym, ◌∙◌, ap, arith, append_assoc}
 use Rattle.array_print.proofs.Words.{Layout, block_text, separator, Sends, SendsPart, opened, IsPart, part_offsets, lead}
 use Rattle.array_print.proofs.PrintLaws.{opened-next, opened-end, opened-rest, sends-grown}
-use Rattle.array_print.proofs.PartLaws.{part-block, length-part}
+use Rattle.array_print.proofs.PartLaws.{part-block}
 
 module _ (f : ℕ → List ℕ) (l : Layout) (axis start small : ℕ) (w w' : Option (List ℕ)) (old : List ℕ) (before : axis < small) (within : small ≤ length l.shape) where
   -- the blocks so far, and the text of all
@@ -18,7 +18,7 @@ module _ (f : ℕ → List ℕ) (l : Layout) (axis start small : ℕ) (w w' : Op
   -- no more blocks will be sent
   pub cut : (k : ℕ) (rest : List ℕ) → k ≤ get_or l.shape axis 0 → Sends w w' rest (old ++ so_far k) → SendsPart w w' (old ++ all)
   cut k rest most sent =
-      let r = opened-rest f l.shape axis (get_or l.shape axis 0 - k) k (part_offsets l axis start) below (omega arith) (length-part l axis start) in
+      let r = opened-rest f l.shape axis (get_or l.shape axis 0 - k) k (part_offsets l axis start) below (omega arith) in
       (rest ++ r.0, sends-grown w w' rest (rest ++ r.0) old _ _ r.0 sent refl r.1)
 
   -- the next block is made
@@ -36,4 +36,4 @@ module _ (f : ℕ → List ℕ) (l : Layout) (axis start small : ℕ) (w w' : Op
   -- the axis ends
   pub ended : (k : ℕ) (rest closed : List ℕ) → k ≡ get_or l.shape axis 0 → Sends w w' rest (old ++ so_far k) → closed ≡ rest ++ codes "]" → Sends w w' closed (old ++ all)
   ended k rest closed whole sent closes =
-      sends-grown w w' rest closed old (so_far k) all (codes "]") sent closes (sym (opened-end f l.shape axis k (part_offsets l axis start) below whole (length-part l axis start)))
+      sends-grown w w' rest closed old (so_far k) all (codes "]") sent closes (sym (opened-end f l.shape axis k (part_offsets l axis start) below whole))

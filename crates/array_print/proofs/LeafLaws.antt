@@ -110,5 +110,3 @@ pub length-field_texts : (fields : List Field) (texts : List (List ℕ)) → len
 length-field_texts [] texts = refl
 length-field_texts (field ∷ fields) texts =
     ap length (field_texts-before field.name field.at field.descr (listed fields) texts) ∙ ap suc (length-field_texts fields (drop (length (leaves_of field.descr)) texts))
-
--- ---- the texts of an item in a block

@@ -13,17 +13,6 @@ StartsWith-along new mid old more grown kept = StartsWith-trans new mid old kept
 
 -- ---- blocks
 
--- blocks depend only on the elements that they take
-pub blocks-take : {A : Type 0} (c n : ℕ) (xs : List A) → blocks c n (take (n * c) xs) ≡ blocks c n xs
-blocks-take c zero xs = refl
-blocks-take c (suc n) xs =
-    let size : suc n * c ≡ c + n * c = omega (arith, suc-mul n c) in
-    let within : c ≤ c + n * c = omega arith in
-    ap (λ m. blocks c (suc n) (take m xs)) size
-    ∙ ap (λ b. b ∷ blocks c n (drop c (take (c + n * c) xs))) (take-take c (c + n * c) xs within)
-    ∙ ap (λ l. take c xs ∷ blocks c n l) (drop-take c (n * c) xs)
-    ∙ ap (λ l. take c xs ∷ l) (blocks-take c n (drop c xs))
-
 -- one more block, with the separator before it
 pub joined-more : {A : Type 0} (separator : List ℕ) (text : List A → List ℕ) (c k : ℕ) (xs : List A) → join_texts separator (map text (blocks c (suc k) xs)) ≡ join_texts separator (map text (blocks c k xs)) ++ lead k separator ++ text (take c (drop (k * c) xs))
 joined-more separator text c zero xs = ap (λ m. text (take c (drop m xs))) (sym (zero-mul c))
@@ -41,51 +30,9 @@ joined-more separator text c (suc (suc k)) xs =
     ∙ ap (λ l. l ++ last) (sym (append_assoc (first ++ separator) rest separator))
     ∙ ap (λ l. first ++ separator ++ rest ++ separator ++ text (take c l)) moved
 
--- the same for mapped items
-pub joined-map-more : (separator : List ℕ) (text : List (List ℕ) → List ℕ) (f : ℕ → List ℕ) (c k : ℕ) (xs : List ℕ) → join_texts separator (map text (blocks c (suc k) (map f xs))) ≡ join_texts separator (map text (blocks c k (map f xs))) ++ lead k separator ++ text (map f (take c (drop (k * c) xs)))
-joined-map-more separator text f c k xs =
-    let here : take c (drop (k * c) (map f xs)) ≡ map f (take c (drop (k * c) xs)) = ap (λ l. take c l) (drop-map f (k * c) xs) ∙ take-map f c (drop (k * c) xs) in
-    joined-more separator text c k (map f xs) ∙ ap (λ l. join_texts separator (map text (blocks c k (map f xs))) ++ lead k separator ++ text l) here
-
--- mapped items have the same blocks if no more of them are taken
-pub blocks-map-take : (f : ℕ → List ℕ) (c n : ℕ) (xs : List ℕ) → blocks c n (map f (take (n * c) xs)) ≡ blocks c n (map f xs)
-blocks-map-take f c n xs = ap (blocks c n) (sym (take-map f (n * c) xs)) ∙ blocks-take c n (map f xs)
-
--- ---- the loop over an axis
-
 -- the parts of a longer text, grouped from the left and from the right
 pub regroup : (old bracket so_far leads next : List ℕ) → old ++ (bracket ++ so_far) ++ leads ++ next ≡ old ++ (bracket ++ (so_far ++ leads ++ next))
 regroup old bracket so_far leads next = simp append_assoc
-
--- one more block is appended
-pub opened-more : (f : ℕ → List ℕ) (axes : List ℕ) (axis k : ℕ) (offsets walk old out led out' : List ℕ) → out ≡ old ++ opened f axes axis k offsets → walk ≡ drop (k * count (drop (axis + 1) axes)) offsets → led ≡ out ++ lead k (separator axis (length axes - axis - 1)) → out' ≡ led ++ block_text (axis + 1) (drop (axis + 1) axes) (map f (take (count (drop (axis + 1) axes)) walk)) → out' ≡ old ++ opened f axes axis (k + 1) offsets
-opened-more f axes axis k offsets walk old out led out' pushed walked leads block =
-    let c = count (drop (axis + 1) axes) in
-    let sep = separator axis (length axes - axis - 1) in
-    let text = block_text (axis + 1) (drop (axis + 1) axes) in
-    let so_far = join_texts sep (map text (blocks c k (map f offsets))) in
-    let next = text (map f (take c (drop (k * c) offsets))) in
-    let more : join_texts sep (map text (blocks c (k + 1) (map f offsets))) ≡ so_far ++ lead k sep ++ next = ap (λ m. join_texts sep (map text (blocks c m (map f offsets)))) (add-one k) ∙ joined-map-more sep text f c k offsets in
-    block
-    ∙ ap (λ w. led ++ text (map f (take c w))) walked
-    ∙ ap (λ l. l ++ next) (leads ∙ ap (λ l. l ++ lead k sep) pushed)
-    ∙ regroup old (codes "[") so_far (lead k sep) next
-    ∙ ap (λ l. old ++ (codes "[" ++ l)) (sym more)
-
--- all blocks of an axis, and its brackets
-pub opened-all : (f : ℕ → List ℕ) (axes : List ℕ) (axis k : ℕ) (offsets old out out' : List ℕ) → axis < length axes → k ≡ get_or axes axis 0 → out ≡ old ++ opened f axes axis k offsets → out' ≡ out ++ codes "]" → out' ≡ old ++ block_text axis (drop axis axes) (map f (take (count (drop axis axes)) offsets))
-opened-all f axes axis k offsets old out out' below all pushed closed =
-    let rest = drop (axis + 1) axes in
-    let c = count rest in
-    let n = get_or axes axis 0 in
-    let body : List (List (List ℕ)) → ℕ → List ℕ = λ bs inner. join_texts (separator axis inner) (map (block_text (axis + 1) rest) bs) in
-    let inner : length axes - axis - 1 ≡ length rest = omega (arith, length-drop (axis + 1) axes) in
-    closed
-    ∙ ap (λ l. l ++ codes "]") (pushed ∙ ap (λ m. old ++ opened f axes axis m offsets) all)
-    ∙ append_assoc old (opened f axes axis n offsets) (codes "]")
-    ∙ ap (λ i. old ++ (codes "[" ++ body (blocks c n (map f offsets)) i ++ codes "]")) inner
-    ∙ ap (λ bs. old ++ (codes "[" ++ body bs (length rest) ++ codes "]")) (sym (blocks-map-take f c n offsets))
-    ∙ ap (λ s. old ++ block_text axis s (map f (take (count s) offsets))) (sym (drop_more axes axis 0 below))
 
 -- ---- the text of an axis
 
@@ -104,7 +51,9 @@ module _ (f : ℕ → List ℕ) (axes : List ℕ) (axis : ℕ) where
       let text = block_text (axis + 1) (drop (axis + 1) axes) in
       let c = count (drop (axis + 1) axes) in
       let joined : ℕ → List ℕ = λ m. join_texts between (map text (blocks c m (map f offsets))) in
-      ap (λ l. codes "[" ++ l) (ap joined (add-one k) ∙ joined-map-more between text f c k offsets ∙ append_assoc (joined k) (lead k between) (block_at k offsets))
+      let here : take c (drop (k * c) (map f offsets)) ≡ map f (take c (drop (k * c) offsets)) = ap (λ l. take c l) (drop-map f (k * c) offsets) ∙ take-map f c (drop (k * c) offsets) in
+      let more = joined-more between text c k (map f offsets) ∙ ap (λ l. joined k ++ lead k between ++ text l) here in
+      ap (λ l. codes "[" ++ l) (ap joined (add-one k) ∙ more ∙ append_assoc (joined k) (lead k between) (block_at k offsets))
 
   -- some more blocks that are all the same
   pub opened-run : (k more : ℕ) (offsets one : List ℕ) → ((j : ℕ) → j < k + (more + 1) → k ≤ j → block_at j offsets ≡ one) →
@@ -124,16 +73,28 @@ module _ (f : ℕ → List ℕ) (axes : List ℕ) (axis : ℕ) where
       ∙ append_assoc (opened f axes axis k offsets) (first ++ repeated (between ++ one) more) (between ++ one)
       ∙ ap (λ t. opened f axes axis k offsets ++ t) (append_assoc first (repeated (between ++ one) more) (between ++ one))
 
-  -- all blocks
-  pub opened-end : (k : ℕ) (offsets : List ℕ) → axis < length axes → k ≡ get_or axes axis 0 → length offsets ≡ count (drop axis axes) → opened f axes axis k offsets ++ codes "]" ≡ block_text axis (drop axis axes) (map f offsets)
-  opened-end k offsets below all many =
-      opened-all f axes axis k offsets [] _ _ below all refl refl ∙ ap (λ os. block_text axis (drop axis axes) (map f os)) (take_all (count (drop axis axes)) offsets (omega (arith, many)))
+  -- all blocks, and the closing bracket
+  pub opened-end : (k : ℕ) (offsets : List ℕ) → axis < length axes → k ≡ get_or axes axis 0 → opened f axes axis k offsets ++ codes "]" ≡ block_text axis (drop axis axes) (map f offsets)
+  opened-end k offsets below all =
+      let rest = drop (axis + 1) axes in
+      let text : ℕ → ℕ → List ℕ = λ n inner. codes "[" ++ join_texts (separator axis inner) (map (block_text (axis + 1) rest) (blocks (count rest) n (map f offsets))) ++ codes "]" in
+      let inner : length axes - axis - 1 ≡ length rest = omega (arith, length-drop (axis + 1) axes) in
+      (λ i. text (all i) (inner i)) ∙ ap (λ shape. block_text axis shape (map f offsets)) (sym (drop_more axes axis 0 below))
+
+  -- one more block is appended
+  pub opened-more : (k : ℕ) (offsets old out led out' : List ℕ) → out ≡ old ++ opened f axes axis k offsets → led ≡ out ++ lead k between → out' ≡ led ++ block_at k offsets → out' ≡ old ++ opened f axes axis (k + 1) offsets
+  opened-more k offsets old out led out' pushed leads block =
+      block
+      ∙ ap (λ l. l ++ block_at k offsets) (leads ∙ ap (λ l. l ++ lead k between) pushed)
+      ∙ ap (λ l. l ++ block_at k offsets) (append_assoc old (opened f axes axis k offsets) (lead k between))
+      ∙ append_assoc old (opened f axes axis k offsets ++ lead k between) (block_at k offsets)
+      ∙ ap (λ l. old ++ l) (append_assoc (opened f axes axis k offsets) (lead k between) (block_at k offsets) ∙ sym (opened-next k offsets))
 
   -- the first blocks, and what follows them
-  pub opened-rest : (d k : ℕ) (offsets : List ℕ) → axis < length axes → k + d ≡ get_or axes axis 0 → length offsets ≡ count (drop axis axes) → (rest : List ℕ) × (block_text axis (drop axis axes) (map f offsets) ≡ opened f axes axis k offsets ++ rest)
-  opened-rest zero k offsets below all many = (codes "]", sym (opened-end k offsets below (omega (arith, all)) many))
-  opened-rest (suc d) k offsets below all many =
-      let r = opened-rest d (k + 1) offsets below (omega (arith, all)) many in (
+  pub opened-rest : (d k : ℕ) (offsets : List ℕ) → axis < length axes → k + d ≡ get_or axes axis 0 → (rest : List ℕ) × (block_text axis (drop axis axes) (map f offsets) ≡ opened f axes axis k offsets ++ rest)
+  opened-rest zero k offsets below all = (codes "]", sym (opened-end k offsets below (omega (arith, all))))
+  opened-rest (suc d) k offsets below all =
+      let r = opened-rest d (k + 1) offsets below (omega (arith, all)) in (
         (lead k between ++ block_at k offsets) ++ r.0,
         r.1 ∙ ap (λ o. o ++ r.0) (opened-next k offsets) ∙ append_assoc (opened f axes axis k offsets) (lead k between ++ block_at k offsets) r.0,
       )
@@ -182,11 +143,11 @@ first-copy old unit (suc n) from to out some is start end =
     repeated-front (suc m) = ap (λ l. l ++ unit) (repeated-front m) ∙ append_assoc unit (repeated unit m) unit
 
 -- the whole axis, of which only one block is made
-pub opened-again : (f : ℕ → List ℕ) (axes : List ℕ) (axis first times inner : ℕ) (offsets old o1 o2 o3 o4 one : List ℕ) → axis < length axes → times + 1 ≡ get_or axes axis 0 → inner ≡ length axes - axis - 1 → length offsets ≡ count (drop axis axes) →
+pub opened-again : (f : ℕ → List ℕ) (axes : List ℕ) (axis first times inner : ℕ) (offsets old o1 o2 o3 o4 one : List ℕ) → axis < length axes → times + 1 ≡ get_or axes axis 0 → inner ≡ length axes - axis - 1 →
     ((j : ℕ) → j < get_or axes axis 0 → block_at f axes axis j offsets ≡ one) →
     first ≡ length o1 → o1 ≡ old ++ codes "[" → o2 ≡ o1 ++ one → o3 ≡ o2 ++ repeated (separator axis inner ++ drop first o2) times → o4 ≡ o3 ++ codes "]" →
     o4 ≡ old ++ block_text axis (drop axis axes) (map f offsets)
-opened-again f axes axis first times inner offsets old o1 o2 o3 o4 one below all inside many same length-is opens made again closes =
+opened-again f axes axis first times inner offsets old o1 o2 o3 o4 one below all inside same length-is opens made again closes =
     let sep = separator axis (length axes - axis - 1) in
     let text = one ++ repeated (sep ++ one) times in
     let from : times + 1 ≡ 0 + (times + 1) = omega arith in
@@ -196,7 +157,7 @@ opened-again f axes axis first times inner offsets old o1 o2 o3 o4 one below all
     ∙ ap (λ l. (l ++ text) ++ codes "]") opens
     ∙ ap (λ l. l ++ codes "]") (append_assoc old (codes "[") text ∙ ap (λ l. old ++ l) (sym run))
     ∙ append_assoc old (opened f axes axis (times + 1) offsets) (codes "]")
-    ∙ ap (λ l. old ++ l) (opened-end f axes axis (times + 1) offsets below all many)
+    ∙ ap (λ l. old ++ l) (opened-end f axes axis (times + 1) offsets below all)
 
 -- ---- an axis that is sent
 

@@ -1,5 +1,6 @@
 -- Repeated items do not change the widths of leaves.
 use Rattle.std.proofs.Common.{◌≡◌, ℕ, zero, suc, ◌+◌, ◌*◌, ◌<◌, List, [], ◌∷◌, ◌++◌, length, map, take, drop, get_or, pos, max, refl, sym, ap, ap₂, ◌∙◌, ◌-◌, arith, take-add, take_all, fold}
+use Rattle.std.proofs.lemmas.Simd.{map-map}
 use Rattle.array_print.proofs.Words.{map-append, drop_more, BoolScalar, Scalar, Byte, Int, Bytes, Leaf, Descr, Layout, count, item_from, leaves_of, items_from, widest, leaf_texts, first_text, later_texts, leaf_width, leaf_widths, widths_at, IsPart, part_offsets}
 use Rattle.array_print.proofs.PartLaws.{stays, part-some, part-block, length-part}
 
@@ -20,12 +21,8 @@ widest-append (text ∷ texts) more =
 abbrev Agree : {X : Type 0} → List X → List X → Type 0
 Agree {X} xs ys = (text : X → List ℕ) → widest (map text xs) ≡ widest (map text ys)
 
-fused : {X Y Z : Type 0} (f : Y → Z) (g : X → Y) (xs : List X) → map f (map g xs) ≡ map (λ x. f (g x)) xs
-fused f g [] = refl
-fused f g (x ∷ xs) = ap (λ l. f (g x) ∷ l) (fused f g xs)
-
 agree-map : {X Y : Type 0} (g : X → Y) (xs ys : List X) → Agree xs ys → Agree (map g xs) (map g ys)
-agree-map g xs ys same text = ap widest (fused text g xs) ∙ same (λ x. text (g x)) ∙ ap widest (sym (fused text g ys))
+agree-map g xs ys same text = ap widest (map-map text g xs) ∙ same (λ x. text (g x)) ∙ ap widest (sym (map-map text g ys))
 
 agree-behind : {X : Type 0} (seen xs ys : List X) → Agree xs ys → Agree (seen ++ xs) (seen ++ ys)
 agree-behind seen xs ys same text =

@@ -1,28 +1,21 @@
 -- The whole text of an array, as the block that all its axes lead to.
 use Rattle.std.proofs.Common.{◌≡◌, ℕ, List, [], ◌∷◌, cond, codes, map, drop, refl, sym, subst, ◌∙◌, ap, arith, zero, suc, ◌<◌}
-use Rattle.array_print.proofs.Words.{ne_eqb, AreWidths, leaves_of, Descr, Layout, count, offsets, array_text, block_text, item_text, widths, items_from, shown, part_offsets}
+use Rattle.std.proofs.lemmas.Simd.{map-map}
+use Rattle.array_print.proofs.Words.{ne_eqb, item_from, AreWidths, leaves_of, Descr, Layout, count, offsets, array_text, block_text, item_text, widths, items_from, shown, part_offsets}
 use Rattle.array_print.proofs.LeafLaws.{are-widths}
 use Rattle.array_print.proofs.PartLaws.{whole-offsets}
-
-texts-shown : (descr : Descr) (ws block offs : List ℕ) → map (shown descr ws block) offs ≡ map (item_text descr ws) (items_from descr block offs)
-texts-shown descr ws block [] = refl
-texts-shown descr ws block (offset ∷ offs) = ap (λ l. shown descr ws block offset ∷ l) (texts-shown descr ws block offs)
-
-pub above : (n : ℕ) → (n ≡ 0 → ⊥) → 0 < n
-above zero some = absurd (some refl)
-above (suc n) some = omega arith
 
 -- texts may have the widths that an array's texts have
 pub whole-widths : (descr : Descr) (l : Layout) (block ws : List ℕ) → ws ≡ widths descr l.shape (items_from descr block (offsets l)) → AreWidths (leaves_of descr) ws
 whole-widths descr l block ws wide = subst (AreWidths (leaves_of descr)) (sym wide) (are-widths descr l.shape (items_from descr block (offsets l)))
 
 -- the whole layout is printed as one block, inside no bracket
-pub whole-text : (descr : Descr) (l : Layout) (block ws : List ℕ) → (count l.shape ≡ 0 → ⊥) → ws ≡ widths descr l.shape (items_from descr block (offsets l)) →
+pub whole-text : (descr : Descr) (l : Layout) (block ws : List ℕ) → 0 < count l.shape → ws ≡ widths descr l.shape (items_from descr block (offsets l)) →
     block_text 0 (drop 0 l.shape) (map (shown descr ws block) (part_offsets l 0 l.offset)) ≡ array_text descr l.shape (items_from descr block (offsets l))
 whole-text descr l block ws some wide =
     let items = items_from descr block (offsets l) in
     let texts = map (item_text descr (widths descr l.shape items)) items in
     ap (λ os. block_text 0 l.shape (map (shown descr ws block) os)) (whole-offsets l)
-    ∙ ap (λ ts. block_text 0 l.shape ts) (texts-shown descr ws block (offsets l))
+    ∙ ap (λ ts. block_text 0 l.shape ts) (sym (map-map (item_text descr ws) (item_from descr block) (offsets l)))
     ∙ ap (λ w. block_text 0 l.shape (map (item_text descr w) items)) wide
-    ∙ ap (λ b. cond b (codes "[]") (block_text 0 l.shape texts)) (sym (ne_eqb (count l.shape) 0 some))
+    ∙ ap (λ b. cond b (codes "[]") (block_text 0 l.shape texts)) (sym (ne_eqb (count l.shape) 0 (λ none. omega (arith, none, some))))

@@ -1,5 +1,6 @@
 use Rattle.std.proofs.Common.{◌≡◌, ◌+◌, ◌<◌, ◌++◌, ℕ, List, [], ◌∷◌, codes, get_or, length, take, drop, sym, ap, ◌∙◌, append_assoc, arith, rules, take_all}
-use Rattle.array_print.proofs.Words.{drop-drop, get_or_default, on_ok_weaker, IfOk-weaker, Descr, Field, Structure, total, fields_of, listed, leaf_count, leaves_of, weight, rest_at, weight-one, listed-fields_of, leaf_count-before, length-leaves_from, RecordDescr, join_texts, record_end, field_texts, structure_text, in_parentheses, first_text, lead, texts_at, StartsWith-trans}
+use Rattle.array_print.proofs.Words.{drop-drop, get_or_default, on_ok_weaker, IfOk-weaker, Descr, Field, Structure, total, fields_of, listed, leaf_count, leaves_of, weight, rest_at, weight-one, leaf_count-before, length-leaves_from, RecordDescr, join_texts, record_end, field_texts, structure_text, in_parentheses, first_text, lead, texts_at, StartsWith-trans}
+use Rattle.elem_descr.specs.DescriptorLaws.{seen_fields}
 use Rattle.array_print.proofs.LeafLaws.{joined-take-more, field_texts-before, length-field_texts}
 use Rattle.array_print.proofs.PrintLaws.{StartsWith-along, StartsWith-pushed, regroup}
 use Rattle.array_print.proofs.printer.+fields.Goals as goal
@@ -23,26 +24,14 @@ texts-all texts k n old out out' all count pushed closed =
     ∙ append_assoc old (codes "(" ++ join_texts (codes ", ") texts) (record_end n)
     ∙ ap (λ m. old ++ (codes "(" ++ join_texts (codes ", ") texts ++ record_end m)) count
 
--- the fields of a record, as a list
-seen : (structure : Structure) (fields : List Field) → fields ≡ fields_of structure.fields → listed fields ≡ structure.fields
-seen structure fields is = ap listed is ∙ listed-fields_of structure.fields
-
 -- a field's text, and the text of what it is
 field-text : (descr : Descr) (structure : Structure) (fields : List Field) (texts : List (List ℕ)) → descr ≡ RecordDescr structure → fields ≡ fields_of structure.fields → in_parentheses (field_texts (listed fields) texts) ≡ structure_text descr texts
 field-text descr structure fields texts is fields-are =
-    ap (λ fs. in_parentheses (field_texts fs texts)) (seen structure fields fields-are) ∙ sym (ap (λ d. structure_text d texts) is)
-
-pub push_field-push_leaf-requires-clause-few : goal.push_field-push_leaf-requires-clause-few
-push_field-push_leaf-requires-clause-few t c =
-    let many = ap (λ d. length (leaves_of d)) c.in-Scalar.is in
-    omega (arith, many, c.requires.leaves, c.requires.few)
-
-pub push_field-overflow_add-result : goal.push_field-overflow_add-result
-push_field-overflow_add-result t c = omega (arith, c.requires.leaves, c.requires.few)
+    ap (λ fs. in_parentheses (field_texts fs texts)) (seen_fields fields structure.fields fields-are) ∙ sym (ap (λ d. structure_text d texts) is)
 
 pub push_field-push_record-requires : goal.push_field-push_record-requires
 push_field-push_record-requires t c =
-    let fields = seen c.in-Record.inner c.fields.result.now c.fields.ensures.value in
+    let fields = seen_fields c.fields.result.now c.in-Record.inner.fields c.fields.ensures.value in
     let all = ap total fields in
     let one = ap weight c.in-Record.is in
     let leaves = ap leaf_count fields in
@@ -62,7 +51,7 @@ push_field-returns-in-Record-clause-text t c =
 
 pub push_field-returns-in-Record-clause-next : goal.push_field-returns-in-Record-clause-next
 push_field-returns-in-Record-clause-next t c =
-    let fields = seen c.in-Record.inner c.fields.result.now c.fields.ensures.value in
+    let fields = seen_fields c.fields.result.now c.in-Record.inner.fields c.fields.ensures.value in
     let leaves = ap leaf_count fields in
     let there = ap (λ d. length (leaves_of d)) c.in-Record.is in
     IfOk-weaker c.push_record.result _ _ (λ next is. omega (arith, is, leaves, there, length-leaves_from 0 c.in-Record.inner.fields)) c.push_record.ensures.next

@@ -1,7 +1,7 @@
-use Rattle.std.proofs.Common.{◌≡◌, ◌+◌, ◌*◌, ◌-◌, ◌<◌, ◌++◌, pos, ◌+ℤ◌, ◌*ℤ◌, get_or, length, map, drop, refl, sym, ap, ◌∙◌, arith, rules, take_all}
-use Rattle.array_print.proofs.Words.{count, block_text, separator, StartsWith-trans, part_offsets, shown, lead}
-use Rattle.array_print.proofs.PrintLaws.{StartsWith-along, StartsWith-pushed, opened-more, opened-all, opened-again}
-use Rattle.array_print.proofs.PartLaws.{at-first, stays, part-some, part-leads, part-inner, part-block, length-part, part-item-inside}
+use Rattle.std.proofs.Common.{◌≡◌, ◌+◌, ◌*◌, ◌-◌, ◌<◌, ◌++◌, pos, ◌+ℤ◌, ◌*ℤ◌, get_or, length, map, drop, codes, append_assoc, sym, ap, ◌∙◌, arith, rules}
+use Rattle.array_print.proofs.Words.{opened, block_text, separator, StartsWith-trans, part_offsets, shown, lead}
+use Rattle.array_print.proofs.PrintLaws.{StartsWith-along, StartsWith-pushed, opened-more, opened-end, opened-again}
+use Rattle.array_print.proofs.PartLaws.{at-first, stays, part-some, part-leads, part-inner, part-block, part-item-inside}
 use Rattle.array_print.proofs.printer.+push_block.Goals as goal
 
 pub push_item-requires : goal.push_item-requires
@@ -45,7 +45,7 @@ returns-then-repeats t c =
     let inner-is : inner ≡ length l.shape - c.args.axis - 1 = ap (λ m. m - c.args.axis - 1) lens in
     let first-is : c.len-first.result ≡ length c.push.new.self.items = omega (arith, c.len-first.ensures, c.push.new.self.ok) in
     let none : get_or l.strides c.args.axis (pos 0) ≡ pos 0 = ap (λ s. get_or s c.args.axis (pos 0)) (sym c.as_slice-strides.ensures) ∙ c.repeats.ensures.0 c.if-repeats.true in
-    let all = opened-again f l.shape c.args.axis c.len-first.result times inner offsets c.args.out.now.items _ _ _ _ (text (map f (part_offsets l (c.args.axis + 1) start))) below times-is inner-is (length-part l c.args.axis start)
+    let all = opened-again f l.shape c.args.axis c.len-first.result times inner offsets c.args.out.now.items _ _ _ _ (text (map f (part_offsets l (c.args.axis + 1) start))) below times-is inner-is
     (λ j low. ap (λ os. text (map f os)) (part-block l c.args.axis start _ _ below c.requires.part j start low (stays _ start j none)))
     first-is c.in_ok-push.ensures.items c.in_ok-push_block.ensures.ok c.in_ok-push_again.ensures.ok c.in_ok-push-2.ensures.items in
     record { ok = all; kept = StartsWith-pushed _ _ _ all; room = omega arith }
@@ -70,7 +70,6 @@ loop-k-preserved t c =
     let l = c.args.layout.now in
     let f = shown c.args.items.now.descr.now c.args.items.now.widths.now c.args.items.now.block.now in
     let k = c.loop-k.k in
-    let inner = count (drop (c.args.axis + 1) l.shape) in
     let text = block_text (c.args.axis + 1) (drop (c.args.axis + 1) l.shape) in
     let offsets = part_offsets l c.args.axis c.args.offset in
     let lens = ap length c.as_slice-lengths.ensures.value in
@@ -78,7 +77,7 @@ loop-k-preserved t c =
     let low : k < get_or l.shape c.args.axis 0 = omega (arith, c.loop-k-test.true, c.loop-k.auto.k-end, ap (λ s. get_or s c.args.axis 0) c.as_slice-lengths.ensures.value) in
     let is : pos c.step_along.result ≡ pos c.args.offset +ℤ get_or l.strides c.args.axis (pos 0) *ℤ pos k = c.step_along.ensures ∙ ap (λ s. pos c.args.offset +ℤ get_or s c.args.axis (pos 0) *ℤ pos k) c.as_slice-strides.ensures in
     record {
-      pushed = opened-more f l.shape c.args.axis k offsets (drop (k * inner) offsets) c.args.out.now.items c.loop-k.out.items c.push_lead.new.out.items c.push_block-in-loop-k.new.out.items c.loop-k.invariant.pushed refl
+      pushed = opened-more f l.shape c.args.axis k offsets c.args.out.now.items c.loop-k.out.items c.push_lead.new.out.items c.push_block-in-loop-k.new.out.items c.loop-k.invariant.pushed
           (c.in_ok-push_lead.ensures.ok ∙ ap (λ m. c.loop-k.out.items ++ lead k (separator c.args.axis (m - c.args.axis - 1))) lens)
           (c.in_ok-push_block-2.ensures.ok ∙ ap (λ os. c.push_lead.new.out.items ++ text (map f os)) (sym (part-block l c.args.axis c.args.offset _ _ below c.requires.part k c.step_along.result low is)));
       room = omega arith;
@@ -91,6 +90,8 @@ returns t c =
     let offsets = part_offsets l c.args.axis c.args.offset in
     let below : c.args.axis < length l.shape = omega (arith, c.if-axis-lengths.false, ap length c.as_slice-lengths.ensures.value, c.requires.part.axes) in
     let all : c.loop-k.k ≡ get_or l.shape c.args.axis 0 = omega (arith, c.loop-k-test.false, c.loop-k.auto.k-end, ap (λ s. get_or s c.args.axis 0) c.as_slice-lengths.ensures.value) in
-    let whole = opened-all f l.shape c.args.axis c.loop-k.k offsets c.args.out.now.items _ _ below all c.loop-k.invariant.pushed c.in_ok-push-3.ensures.items
-    ∙ ap (λ os. c.args.out.now.items ++ block_text c.args.axis (drop c.args.axis l.shape) (map f os)) (take_all (count (drop c.args.axis l.shape)) offsets (omega (arith, length-part l c.args.axis c.args.offset))) in
+    let whole = c.in_ok-push-3.ensures.items
+    ∙ ap (λ out. out ++ codes "]") c.loop-k.invariant.pushed
+    ∙ append_assoc c.args.out.now.items (opened f l.shape c.args.axis c.loop-k.k offsets) (codes "]")
+    ∙ ap (λ text. c.args.out.now.items ++ text) (opened-end f l.shape c.args.axis c.loop-k.k offsets below all) in
     record { ok = whole; kept = StartsWith-pushed _ _ _ whole; room = omega arith }

@@ -1,16 +1,16 @@
-use Rattle.std.proofs.Common.{true, Result, Ok, Err, is_err, ◌≡◌, ◌++◌, sym, ◌∙◌, ap, OnOk}
+use Rattle.std.proofs.Common.{true, Result, Ok, Err, is_err, ◌<◌, ◌≡◌, ◌++◌, sym, ◌∙◌, ap, OnOk, arith}
 use Rattle.array_print.proofs.Words.{on_ok_weaker, count}
 use Rattle.array_print.proofs.PartLaws.{whole-part}
-use Rattle.array_print.proofs.WholeLaws.{above, whole-text, whole-widths}
+use Rattle.array_print.proofs.WholeLaws.{whole-text, whole-widths}
 use Rattle.array_print.proofs.printer.print_into.Goals.{then-is_err, else-is_err}
 use Rattle.array_print.proofs.printer.print_into.Goals as goal
 
 pub push_block-printed-requires : goal.push_block-printed-requires
 push_block-printed-requires c =
-    let some : count c.args.layout.now.shape ≡ 0 → ⊥ = λ none. c.if-items-eq0.false (c.items.ensures.value ∙ none) in
+    let some : 0 < count c.args.layout.now.shape = omega (arith, c.if-items-eq0.false, c.items.ensures.value) in
     record {
       widths = whole-widths c.args.descr.now c.args.layout.now c.args.block.now _ (c.as_slice.ensures ∙ c.in_ok-widths.ensures);
-      part = whole-part c.args.layout.now _ _ (above (count c.args.layout.now.shape) some) c.requires.inside;
+      part = whole-part c.args.layout.now _ _ some c.requires.inside;
     }
 
 failed : {A E : Type 0} (r : Result A E) (P : Type 0) → is_err r ≡ true → OnOk r P
@@ -19,7 +19,7 @@ failed (Err e) P is = tt
 
 pub returns-clause-ok : goal.returns-clause-ok
 returns-clause-ok c =
-    let some : count c.args.layout.now.shape ≡ 0 → ⊥ = λ none. c.if-items-eq0.false (c.items.ensures.value ∙ none) in
+    let some : 0 < count c.args.layout.now.shape = omega (arith, c.if-items-eq0.false, c.items.ensures.value) in
     elim c.if-is_err.branch [
       | then-is_err w ↦ failed c.push_block-printed.result _ (sym c.is_err.ensures.value ∙ w.if-is_err.true)
       | else-is_err w ↦
