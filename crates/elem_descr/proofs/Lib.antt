@@ -6,7 +6,6 @@ pub mod Marks
 pub mod Fronts
 pub mod PartialLaws
 pub mod Turns
-pub mod Binds
 pub mod WrittenMembers
 pub mod WrittenFields
 pub mod Pieces

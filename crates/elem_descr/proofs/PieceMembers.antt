@@ -2,13 +2,19 @@
 use Rattle.std.proofs.Common.{◌≡◌, ◌≤◌, ◌+◌, inl, inr, ℕ, zero, suc, Bool, true, false, ◌&&◌, List, [], ◌∷◌, ◌++◌, take, drop, codes, Option, Some, None, Result, Ok, Err, cond, if◌then◌else◌, refl, sym, ap, subst, ◌∙◌, arith, unwrap_or}
 use Rattle.elem_descr.proofs.Words.{option_map, is_ascii_digit, list_all, prefix_len, cases_eq, cases_Bool, and_parts, nat_tests, take-append-drop, Refusal, BadDescriptor, DescriptorLeftOut, Scalar, Descr, Mark, Aligned, Native, LittleMark, BigMark, ◌>>=◌, is_one_of, Member, Value, Pad, Opened, is_empty, mark_meant, number_letter, number_member, count_of, text_member, is_left_out, other_member, lettered, Behind, nothing, between_colons, lone_colon, Piece, letter, opening, is_colon, pieces, PieceKind, member, part_of, begins_with_digit, after, is_opened, lettered_before, after_count, member_at}
 use Rattle.elem_descr.proofs.Fronts.{front_passes, one_more, some_left}
-use Rattle.elem_descr.proofs.Pieces.{behind, pieces-colon, pieces-byte, pieces-letter, pieces-opening, pieces-digits_letter, pieces-digits_opening, CountsNothing, LastDigit, last_digit}
+use Rattle.elem_descr.proofs.Pieces.{behind, pieces-colon, pieces-byte, pieces-letter, pieces-opening, pieces-digits, CountsNothing, LastDigit, last_digit}
 
 -- ---- steps that may be refused
 
 pub bind_bind : {X Y Z : Type 0} (r : Result X Refusal) (f : X → Result Y Refusal) (g : Y → Result Z Refusal) → ((r >>= f) >>= g) ≡ (r >>= λ x. f x >>= g)
 bind_bind (Ok x) f g = refl
 bind_bind (Err e) f g = refl
+
+pub after_ok : {X Y : Type 0} (r : Result X Refusal) (f : X → Result Y Refusal) (x : X) → r ≡ Ok x → (r >>= f) ≡ f x
+after_ok {X = X} r f x e = ap (λ (s : Result X Refusal). s >>= f) e
+
+pub after_err : {X Y : Type 0} (r : Result X Refusal) (f : X → Result Y Refusal) (refusal : Refusal) → r ≡ Err refusal → (r >>= f) ≡ Err refusal
+after_err {X = X} r f refusal e = ap (λ (s : Result X Refusal). s >>= f) e
 
 -- ---- bytes by their meaning
 
@@ -136,7 +142,7 @@ fits_nowhere mark later (d ∷ digits) text more all is nothing_counted bad =
     ap (front mark later) last.is ∙ ap (λ r. r >>= λ part. later part last.more) (digit_part mark last.digits last.last last.digit)
 
 opening_met : (mark : Mark) (later : Then) (digits text : List ℕ) → list_all is_ascii_digit digits ≡ true → front mark later (pieces (digits ++ 84 ∷ (123 ∷ text))) ≡ (after_count mark digits (84 ∷ (123 ∷ text)) >>= meant later)
-opening_met mark later digits text all = ap (front mark later) (pieces-digits_opening digits (84 ∷ (123 ∷ text)) (pieces text) all (pieces-opening text)) ∙ counted digits
+opening_met mark later digits text all = ap (front mark later) (pieces-digits opening (λ d ds more. refl) digits (84 ∷ (123 ∷ text)) (pieces text) all (pieces-opening text)) ∙ counted digits
   where
     counted : (digits : List ℕ) → front mark later (opening digits ∷ pieces text) ≡ (after_count mark digits (84 ∷ (123 ∷ text)) >>= meant later)
     counted [] = refl
@@ -149,7 +155,7 @@ part_plain mark (d ∷ digits) b rest behind plain = part_counted mark d digits 
 letter_met : (mark : Mark) (later : Then) (digits : List ℕ) (b : ℕ) (rest : List ℕ) → list_all is_ascii_digit digits ≡ true → Plain mark (digits ++ b ∷ rest) → is_colon b ≡ false → is_one_of (123 ∷ []) b ≡ false → is_ascii_digit b ≡ false → (is_one_of (84 ∷ []) b && is_opened rest) ≡ false → front mark later (pieces (digits ++ b ∷ rest)) ≡ (after_count mark digits (b ∷ rest) >>= meant later)
 letter_met mark later digits b rest all plain colon brac digit bare =
     let before : lettered_before mark digits b rest ≡ lettered mark digits b = rw bare refl in
-    ap (front mark later) (pieces-digits_letter digits (b ∷ rest) b (behind rest).0 (pieces (behind rest).1) all (pieces-letter b rest colon brac digit bare))
+    ap (front mark later) (pieces-digits (λ ds. letter ds b (behind rest).0) (λ d ds more. refl) digits (b ∷ rest) (pieces (behind rest).1) all (pieces-letter b rest colon brac digit bare))
     ∙ ap (λ r. r >>= λ part. later part (pieces (behind rest).1)) (part_plain mark digits b rest (behind rest).0 plain)
     ∙ lettered_met mark later digits b rest
     ∙ ap (λ r. (r >>= λ it. Ok (it, rest)) >>= meant later) (sym before)

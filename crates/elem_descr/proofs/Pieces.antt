@@ -160,17 +160,13 @@ pieces-digit d text e =
     let brac : is_one_of (123 ∷ []) d ≡ false = grind (arith, nat_tests) in
     pieces-byte d text colon ∙ rw (brac, e) refl
 
-pub pieces-digits_letter : (digits text : List ℕ) (b : ℕ) (behind : Behind) (more : List Piece) → list_all is_ascii_digit digits ≡ true → pieces text ≡ letter [] b behind ∷ more → pieces (digits ++ text) ≡ letter digits b behind ∷ more
-pieces-digits_letter [] text b behind more all is = is
-pieces-digits_letter (d ∷ digits) text b behind more all is =
+-- digits before a piece that takes them
+pub pieces-digits : (piece : List ℕ → Piece) → ((d : ℕ) (digits : List ℕ) (more : List Piece) → digit_onto d (piece digits ∷ more) ≡ piece (d ∷ digits) ∷ more) →
+    (digits text : List ℕ) (more : List Piece) → list_all is_ascii_digit digits ≡ true → pieces text ≡ piece [] ∷ more → pieces (digits ++ text) ≡ piece digits ∷ more
+pieces-digits piece takes [] text more all is = is
+pieces-digits piece takes (d ∷ digits) text more all is =
     let h = and_parts (is_ascii_digit d) (list_all is_ascii_digit digits) all in
-    pieces-digit d (digits ++ text) h.0 ∙ ap (digit_onto d) (pieces-digits_letter digits text b behind more h.1 is)
-
-pub pieces-digits_opening : (digits text : List ℕ) (more : List Piece) → list_all is_ascii_digit digits ≡ true → pieces text ≡ opening [] ∷ more → pieces (digits ++ text) ≡ opening digits ∷ more
-pieces-digits_opening [] text more all is = is
-pieces-digits_opening (d ∷ digits) text more all is =
-    let h = and_parts (is_ascii_digit d) (list_all is_ascii_digit digits) all in
-    pieces-digit d (digits ++ text) h.0 ∙ ap (digit_onto d) (pieces-digits_opening digits text more h.1 is)
+    pieces-digit d (digits ++ text) h.0 ∙ ap (digit_onto d) (pieces-digits piece takes digits text more h.1 is) ∙ takes d digits more
 
 -- pieces before which a digit counts nothing
 abbrev pub CountsNothing : List Piece → Type 0

@@ -3,8 +3,7 @@ use Rattle.std.proofs.Common.{◌≡◌, ◌≤◌, ◌<◌, ◌+◌, ◌-◌, �
 use Rattle.elem_descr.proofs.Words.{IsDistinct, list_all, bytes_eq, le-leb, and_parts, cases_Bool, decimal_nonempty, append-nil, Refusal, BadDescriptor, Little, Big, Scalar, BoolScalar, Byte, Int, Bytes, Field, Descr, ScalarDescr, RecordDescr, Body, Mark, Aligned, Native, LittleMark, BigMark, ◌>>=◌, size, Fields, no_more, scalar_field, record_field, Structure, is_one_of, is_legal_name, IsLegal, AreNamedWithin, InOrder, fields_of, listed, names_of, before, depth, leaf_count, item_size, leaves_of, leaves_from, is_aligning, own_alignment, aligned_to, Partial, is_taken, widened, closed_size, closed_record, format, format_in_turns, member_at, held_at, Later, Reader, is_named, marked, closing, scalar_in, pad_in, body_in, next_field, turn, members, record_within, nothing_follows, scalar_alone, record_alone, alone, written_mark, written_count, written_letter, written_scalar, written_pad, written_name, braced, written_fields, written_format, digits-decimal, packed, multiple_of_one, field_of, grown, name_ok, added_ok, names, not_taken, listed-fields_of, InOrder-before, InOrder-within, leaf_count-before, some_depth, length-leaves_from}
 use Rattle.elem_descr.proofs.FieldLaws.{fields_of-before}
 use Rattle.elem_descr.proofs.FieldLists.{within_behind, depth-before}
-use Rattle.elem_descr.proofs.PieceMembers.{one_of_one}
-use Rattle.elem_descr.proofs.Binds.{after_ok}
+use Rattle.elem_descr.proofs.PieceMembers.{after_ok, one_of_one}
 use Rattle.elem_descr.proofs.SameFormat.{same_format}
 use Rattle.elem_descr.proofs.WrittenMembers.{mark_of, marked_digits, reads_scalar, reads_pad, reads_name}
 

@@ -1,6 +1,7 @@
 -- The members of a record are the same by their pieces as when they are read in turns.
 use Rattle.std.proofs.Common.{◌≡◌, ◌≤◌, ◌<◌, ◌+◌, ℕ, zero, suc, Bool, true, false, not, ◌&&◌, List, [], ◌∷◌, length, take, drop, ◌++◌, codes, inl, inr, Option, Some, None, Result, Ok, Err, IfOk, if◌then◌else◌, refl, sym, ap, subst, ◌∙◌, arith, nat_le, decimal}
-use Rattle.elem_descr.proofs.Words.{length-drop, is_ascii_digit, prefix_len, next_multiple_of, option_map, cases_Bool, leb-false, lt-leb, Refusal, BadDescriptor, DescriptorLeftOut, TooLarge, Scalar, Descr, ScalarDescr, RecordDescr, Body, Mark, ◌>>=◌, check, leaves_of, is_legal_name, is_one_of, size, Member, Value, Pad, Opened, own_alignment, aligned_to, Partial, empty, if_small, with_field, checked_name, added, widened, Behind, nothing, between_colons, lone_colon, Piece, letter, stray, is_colon, pieces, closed_body, part_of, called, next_name, with_scalar, with_pad, with_record, opened, unnamed, Reading, begun, within, beyond, closed_in, in_record, step, read_on, name_at, after, marked, is_named, is_opened, lettered_before, after_count, member_at, fitting, capped, as_held, named, Later, scalar_in, pad_in, body_in, taken_in, next_field, closing, turn, members, record_within, widened-capped, bind_same}
+use Rattle.elem_descr.specs.FormatTexts.{blank, marking}
+use Rattle.elem_descr.proofs.Words.{PieceKind, Aligned, Native, LittleMark, BigMark, at_begin, behind_member, length-drop, is_ascii_digit, prefix_len, next_multiple_of, option_map, cases_Bool, leb-false, lt-leb, Refusal, BadDescriptor, DescriptorLeftOut, TooLarge, Scalar, Descr, ScalarDescr, RecordDescr, Body, Mark, ◌>>=◌, check, leaves_of, is_legal_name, is_one_of, size, Member, Value, Pad, Opened, own_alignment, aligned_to, Partial, empty, if_small, with_field, checked_name, added, widened, Behind, nothing, between_colons, lone_colon, Piece, letter, stray, is_colon, pieces, closed_body, part_of, called, next_name, with_scalar, with_pad, with_record, opened, unnamed, Reading, begun, within, beyond, closed_in, in_record, step, read_on, name_at, after, marked, is_named, is_opened, lettered_before, after_count, member_at, fitting, capped, as_held, named, Later, scalar_in, pad_in, body_in, taken_in, next_field, closing, turn, members, record_within, widened-capped, bind_same}
 use Rattle.elem_descr.proofs.Pieces.{name_end, behind_colon, behind, name_at-ended, ended_name, pieces-colon, behind-colon, behind-other, pieces-letter}
 use Rattle.elem_descr.proofs.PieceMembers.{bind_bind, one_of_one, sign_cases, Then, front, met, meant, member_met}
 
@@ -48,29 +49,23 @@ pub record TakesMarks (at : Mark → Reading) : Type 0 where
   pub colons : (mark next : Mark) (b : ℕ) → after mark b ≡ Some next → step (at mark) (letter [] b lone_colon) ≡ Err BadDescriptor
   pub strays : (mark : Mark) (behind : Behind) → step (at mark) (stray behind) ≡ Err BadDescriptor
 
-pub marks_begun : TakesMarks begun
-marks_begun = record {
-  signs = λ mark next b e. sign_cases (λ c n. step (begun mark) (letter [] c nothing) ≡ Ok (begun n)) mark next b e refl refl refl refl refl refl refl;
-  names = λ mark next b bytes e. sign_cases (λ c n. step (begun mark) (letter [] c (between_colons bytes)) ≡ Err BadDescriptor) mark next b e refl refl refl refl refl refl refl;
-  colons = λ mark next b e. sign_cases (λ c n. step (begun mark) (letter [] c lone_colon) ≡ Err BadDescriptor) mark next b e refl refl refl refl refl refl refl;
-  strays = λ mark behind. refl;
+takes_marks : (at : Mark → Reading) (used : Mark → Mark) (later : Mark → PieceKind → Result Reading Refusal) → ((mark : Mark) (piece : Piece) → step (at mark) piece ≡ (part_of (used mark) piece >>= later mark)) →
+    ((mark : Mark) → later mark blank ≡ Ok (at mark)) → ((mark next : Mark) → later mark (marking next) ≡ Ok (at next)) → TakesMarks at
+takes_marks at used later steps blanks marks = record {
+  signs = λ mark next b e. steps mark (letter [] b nothing) ∙ sign_cases (λ c n. (part_of (used mark) (letter [] c nothing) >>= later mark) ≡ Ok (at n)) mark next b e (blanks mark) (marks mark Aligned) (marks mark Native) (marks mark LittleMark) (marks mark LittleMark) (marks mark BigMark) (marks mark BigMark);
+  names = λ mark next b bytes e. steps mark (letter [] b (between_colons bytes)) ∙ sign_cases (λ c n. (part_of (used mark) (letter [] c (between_colons bytes)) >>= later mark) ≡ Err BadDescriptor) mark next b e refl refl refl refl refl refl refl;
+  colons = λ mark next b e. steps mark (letter [] b lone_colon) ∙ sign_cases (λ c n. (part_of (used mark) (letter [] c lone_colon) >>= later mark) ≡ Err BadDescriptor) mark next b e refl refl refl refl refl refl refl;
+  strays = λ mark behind. steps mark (stray behind);
 }
+
+pub marks_begun : TakesMarks begun
+marks_begun = takes_marks begun (λ mark. mark) at_begin (λ _ _. refl) (λ _. refl) (λ _ _. refl)
 
 marks_within : (p : Partial) (around : List (Mark × Partial)) → TakesMarks (λ mark. within mark p around)
-marks_within p around = record {
-  signs = λ mark next b e. sign_cases (λ c n. step (within mark p around) (letter [] c nothing) ≡ Ok (within n p around)) mark next b e refl refl refl refl refl refl refl;
-  names = λ mark next b bytes e. sign_cases (λ c n. step (within mark p around) (letter [] c (between_colons bytes)) ≡ Err BadDescriptor) mark next b e refl refl refl refl refl refl refl;
-  colons = λ mark next b e. sign_cases (λ c n. step (within mark p around) (letter [] c lone_colon) ≡ Err BadDescriptor) mark next b e refl refl refl refl refl refl refl;
-  strays = λ mark behind. refl;
-}
+marks_within p around = takes_marks (λ mark. within mark p around) (λ mark. mark) (λ mark. in_record mark p around) (λ _ _. refl) (λ _. refl) (λ _ _. refl)
 
 pub marks_beyond : TakesMarks (λ mark. beyond)
-marks_beyond = record {
-  signs = λ mark next b e. sign_cases (λ c n. step beyond (letter [] c nothing) ≡ Ok beyond) mark next b e refl refl refl refl refl refl refl;
-  names = λ mark next b bytes e. sign_cases (λ c n. step beyond (letter [] c (between_colons bytes)) ≡ Err BadDescriptor) mark next b e refl refl refl refl refl refl refl;
-  colons = λ mark next b e. sign_cases (λ c n. step beyond (letter [] c lone_colon) ≡ Err BadDescriptor) mark next b e refl refl refl refl refl refl refl;
-  strays = λ mark behind. refl;
-}
+marks_beyond = takes_marks (λ mark. beyond) (λ mark. Aligned) (λ mark. behind_member beyond) (λ _ _. refl) (λ _. refl) (λ _ _. refl)
 
 -- one mark or blank
 sign_read : (at : Mark → Reading) → TakesMarks at → (mark next : Mark) (b : ℕ) (rest : List ℕ) → after mark b ≡ Some next → read_on (at mark) (pieces (b ∷ rest)) ≡ read_on (at next) (pieces rest)

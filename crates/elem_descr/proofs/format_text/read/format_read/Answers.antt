@@ -1,7 +1,7 @@
 use Rattle.std.proofs.Common.{◌≡◌, List, ℕ, drop, rules, sym, ap, ◌∙◌}
 use Rattle.elem_descr.proofs.Words.{take_rest, Mark, ◌>>=◌, member_at, held_at, alone, record_alone, format_in_turns}
 use Rattle.elem_descr.specs.declared.format_text.member.Member.{Member}
-use Rattle.elem_descr.proofs.Binds.{after_ok}
+use Rattle.elem_descr.proofs.PieceMembers.{after_ok}
 use Rattle.elem_descr.proofs.SameFormat.{same_format}
 use Rattle.elem_descr.proofs.format_text.read.format_read.Goals as goal
 

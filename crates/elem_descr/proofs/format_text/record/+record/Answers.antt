@@ -1,6 +1,6 @@
 use Rattle.std.proofs.Common.{◌≡◌, ◌<◌, ◌-◌, ◌∙◌, ⊎_elim, inl, inr, length, ap, arith}
 use Rattle.elem_descr.proofs.Words.{err_from_is_err_and, Partial, record_within}
-use Rattle.elem_descr.proofs.Binds.{after_ok, after_err}
+use Rattle.elem_descr.proofs.PieceMembers.{after_ok, after_err}
 use Rattle.elem_descr.proofs.Turns.{no_levels, members_begin, members_closed, members_field}
 use Rattle.elem_descr.proofs.format_text.record.+record.Goals as goal
 
