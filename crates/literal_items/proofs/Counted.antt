@@ -1,8 +1,7 @@
 -- Numbers that are counted by their lowest 64 bits, and read back from their bytes.
 use Rattle.std.proofs.Common.{◌≡◌, ℕ, zero, suc, ◌+◌, ◌*◌, ◌%◌, ◌^◌, ◌<◌, inl, inr, Bool, true, false, List, [], ◌∷◌, ◌++◌, length, take, map, refl, sym, ap, ◌∙◌, arith, ℤ, pos, ◌+ℤ◌, ◌*ℤ◌, append-nil}
-use Rattle.literal_items.proofs.Words.{w64, cast_signed, cast_unsigned, int_wrap, list_all, range_with_len, ints, wrapping_add-bits, int_wrap-add_left, int_wrap-add_right, of_z-to_z, take_all, map-map, map-range_with_len_more, get_or-map-range_with_len, AllPass-from_list_all, mod-lt, Scalar, Byte, number, IsNumber, IsValueOf, FitsBytes, is_value, size, integer, low_bits, decode, encode, low_bits-lt, decode_encode, integer-low_bits, int_wrap-low_bits, decode_item, blocks, items_in, numbers_from, next_number, length-numbers_from, length-encode, fits_eight_bytes, value_decides, joined, length-joined, AreBits, BoolScalar, IntScalar, BytesScalar, ScalarDescr, numbered}
+use Rattle.literal_items.proofs.Words.{Decides-int_eq, wrap, w64, cast_signed, cast_unsigned, int_wrap, list_all, range_with_len, ints, wrapping_add-bits, int_wrap-add_left, int_wrap-add_right, of_z-to_z, take_all, map-map, map-range_with_len_more, get_or-map-range_with_len, AllPass-from_list_all, mod-lt, Scalar, Byte, number, IsNumber, IsValueOf, FitsBytes, is_value, size, integer, low_bits, decode, encode, low_bits-lt, decode_encode, integer-low_bits, int_wrap-low_bits, decode_item, blocks, items_in, numbers_from, next_number, length-numbers_from, length-encode, fits_eight_bytes, value_decides, joined, length-joined, AreBits, BoolScalar, IntScalar, BytesScalar, ScalarDescr, numbered}
 use Rattle.literal_items.proofs.Blocked.{map-blocks-put}
-use Rattle.literal_items.proofs.Scalars.{scalar_read, value_is}
 
 -- ---- the lowest bits of the next number
 
@@ -51,9 +50,9 @@ bits_of_value scalar z bits kind held is =
 
 value_read : (scalar : Scalar) (z : ℤ) → IsNumber scalar → is_value scalar z ≡ true → decode_item (ScalarDescr scalar) (encode scalar (number z)) ≡ number z ∷ []
 value_read scalar z kind held =
-    let same = value_is scalar z held in
-    scalar_read scalar (encode scalar (number z)) (number z) (length-encode scalar (number z))
-    (ap (λ value. decode scalar (encode scalar value)) (sym same) ∙ decode_encode scalar z kind ∙ same)
+    let same : number (wrap scalar z) ≡ number z = ap number ((Decides-int_eq (wrap scalar z) z).0 held) in
+    ap (λ bytes. decode scalar bytes ∷ []) (take_all (size scalar) (encode scalar (number z)) (omega (arith, length-encode scalar (number z))))
+    ∙ ap (λ value. decode scalar (encode scalar value) ∷ []) (sym same) ∙ ap (λ value. value ∷ []) (decode_encode scalar z kind ∙ same)
 
 -- items that are joined, read one by one
 read_joined : {B : Type 0} (f : List ℕ → B) (g : ℕ → B) (item : ℕ → List ℕ) (bytes n : ℕ) → ((k : ℕ) → k < n → length (item k) ≡ bytes) → ((k : ℕ) → k < n → f (item k) ≡ g k) → map f (blocks bytes n (joined item n)) ≡ map g (range_with_len 0 n)
@@ -82,6 +81,3 @@ numbers_read scalar start step count kind held =
     (λ k low. length-encode scalar (number (start +ℤ step *ℤ pos k)))
     (λ k low. value_read scalar (start +ℤ step *ℤ pos k) kind (value_at scalar start step count k held low))
     ∙ sym (map-map (λ value. number value ∷ []) (λ k. start +ℤ step *ℤ pos k) (range_with_len 0 count))
-
-pub length-numbered : (scalar : Scalar) (start step : ℤ) (count : ℕ) → IsNumber scalar → length (joined (numbered scalar start step) count) ≡ count * size scalar
-length-numbered scalar start step count kind = length-joined (numbered scalar start step) (size scalar) count (λ k low. length-encode scalar (number (start +ℤ step *ℤ pos k)))

@@ -1,7 +1,6 @@
 -- The first and the last number of a range decide whether all are values of a scalar.
 use Rattle.std.proofs.Common.{◌≡◌, ◌-◌, suc, Bool, get_or, ℕ, ◌*◌, ◌<◌, ◌≤◌, ◌⊎◌, true, false, ℤ, pos, negsuc, unsigned_abs, ◌+ℤ◌, ◌*ℤ◌, ◌≤ℤ◌, inl, inr, sym, ap, ◌∙◌, subst, arith, FitsSigned}
-use Rattle.literal_items.proofs.Words.{*ℤ-zero, mul-le-mul_left, cases_lt, cases_Bool, ints, get_or-map-range_with_len, list_all-from_AllPass, list_all, w128, Scalar, Byte, IsNumber, IsValueOf, FitsBytes, is_value, width_size, numbers_from, value_decides, length-numbers_from, number_at, BoolScalar, IntScalar, BytesScalar}
-use Rattle.literal_items.proofs.Lists.{all_fails}
+use Rattle.literal_items.proofs.Words.{*ℤ-zero, mul-le-mul_left, cases_lt, cases_Bool, ints, get_or-map-range_with_len, list_all-from_AllPass, list_all, list_all_at, w128, Scalar, Byte, IsNumber, IsValueOf, FitsBytes, is_value, width_size, numbers_from, value_decides, length-numbers_from, number_at, BoolScalar, IntScalar, BytesScalar}
 
 bytes_between : (signed : Bool) (n : ℕ) (a z b : ℤ) → a ≤ℤ z → z ≤ℤ b → FitsBytes signed n a → FitsBytes signed n b → FitsBytes signed n z
 bytes_between false n a z b low high there here = (omega (arith, ints, there.0), omega (arith, ints, here.1))
@@ -40,13 +39,13 @@ last_decides scalar start step last count b kind some first is held =
     let long = length-numbers_from start step count in
     elim (cases_Bool b) [
       | inl passes ↦ passes ∙ sym (ends_are_values scalar start step count kind some first (ap (is_value scalar) (sym is) ∙ sym held ∙ passes))
-      | inr fails ↦ fails ∙ sym (all_fails (is_value scalar) (numbers_from start step count) (count - 1) last (omega arith) (number_at start step last count (count - 1) (omega arith) is) (sym held ∙ fails))
+      | inr fails ↦ fails ∙ sym (list_all_at (is_value scalar) (numbers_from start step count) (count - 1) last (omega arith) (ap (is_value scalar) (number_at start step last count (count - 1) (omega arith) is) ∙ sym held ∙ fails))
     ]
 
 pub first_fails : (scalar : Scalar) (start step : ℤ) (count : ℕ) → 0 < count → is_value scalar start ≡ false → list_all (is_value scalar) (numbers_from start step count) ≡ false
 first_fails scalar start step count some fails =
     let long = length-numbers_from start step count in let none : step *ℤ pos 0 ≡ pos 0 = *ℤ-zero step in
-    all_fails (is_value scalar) (numbers_from start step count) 0 start (omega arith) (number_at start step start count 0 some (omega (arith, ints, none))) fails
+    list_all_at (is_value scalar) (numbers_from start step count) 0 start (omega arith) (ap (is_value scalar) (number_at start step start count 0 some (omega (arith, ints, none))) ∙ fails)
 
 -- the first is the start
 pub first_fits : (start step : ℤ) → FitsSigned w128 (start +ℤ step *ℤ pos 0) → FitsSigned w128 start

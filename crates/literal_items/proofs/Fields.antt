@@ -42,10 +42,6 @@ pub turn_passed : (test : Scalar → ScalarLiteral → Bool) (fields : List Fiel
 turn_passed test fields literals k field literal turn passed =
     (and_parts (stands_for test field.descr literal) (stand_for test (listed (drop (k + 1) fields)) (all_values (drop (k + 1) literals))) (sym (stand_for-at test fields literals k field literal turn) ∙ passed)).0
 
--- no field is left
-pub none_left : (test : Scalar → ScalarLiteral → Bool) (fields : List Field) (literals : List Literal) (k : ℕ) → length fields ≤ k → length literals ≤ k → stand_for test (listed (drop k fields)) (all_values (drop k literals)) ≡ true
-none_left test fields literals k past over = λ i. stand_for test (listed (drop_all k fields past i)) (all_values (drop_all k literals over i))
-
 pub seen_values : (literals : List Literal) (all : Values) → literals ≡ literals_of all → all_values literals ≡ all
 seen_values literals all are = ap all_values are ∙ listed_literals_of all
 
@@ -147,10 +143,6 @@ put_fields-at item start fields literals k field literal turn can =
     ∙ (λ i. put_leaves item (leaves_from-before start field.name field.at field.descr later i) (field_values-before field.name field.at field.descr later literal others can i))
     ∙ put_leaves-append item (map (moved_leaf (start + field.at)) (leaves_of field.descr)) (field_value field.descr literal) (leaves_from start later) (field_values later others) (field_sound (start + field.at) field.descr literal can))
 
--- no field is left
-pub put_fields-none : (item : List ℕ) (start : ℕ) (fields : List Field) (literals : List Literal) (k : ℕ) → length fields ≤ k → put_fields item start (drop k fields) literals ≡ item
-put_fields-none item start fields literals k past = ap (λ left. put_fields item start left literals) (drop_all k fields past)
-
 -- a field lies within its record
 pub turn_within : (structure : Structure) (fields : List Field) (k : ℕ) (field : Field) → IsLegal structure → fields ≡ fields_of structure.fields → k < length fields → field ≡ get_or fields k field → field.at + item_size field.descr ≤ structure.size
 turn_within structure fields k field legal are low is =
@@ -165,14 +157,14 @@ put_record item at descr literal structure values literals is there have =
 
 -- ---- a record written over zeros
 
-pub record_written : (structure : Structure) (literal : Literal) (zeros item : List ℕ) → can_be_item (RecordDescr structure) literal ≡ true → AreInOrder 0 (leaves_from 0 structure.fields) structure.size → zeros ≡ replicate structure.size 0 → item ≡ put_leaves zeros (leaves_from 0 structure.fields) (values_of (RecordDescr structure) literal) → item ≡ encode_item (RecordDescr structure) (values_of (RecordDescr structure) literal)
-record_written structure literal zeros item can order blank is =
-    is
-    ∙ ap (λ bytes. put_leaves bytes (leaves_from 0 structure.fields) (values_of (RecordDescr structure) literal)) blank
-    ∙ put_encoded structure.size (leaves_from 0 structure.fields) (values_of (RecordDescr structure) literal) order (item_sound (RecordDescr structure) literal can)
-
-pub record_read : (structure : Structure) (literal : Literal) (item : List ℕ) → can_be_item (RecordDescr structure) literal ≡ true → AreInOrder 0 (leaves_from 0 structure.fields) structure.size → item ≡ encode_item (RecordDescr structure) (values_of (RecordDescr structure) literal) → decode_item (RecordDescr structure) item ≡ values_of (RecordDescr structure) literal
-record_read structure literal item can order is = put_read structure.size (leaves_from 0 structure.fields) (values_of (RecordDescr structure) literal) item order (item_sound (RecordDescr structure) literal can) is
+pub record_cast : (descr : Descr) (structure : Structure) (literal : Literal) (zeros item : List ℕ) → descr ≡ RecordDescr structure → can_be_item descr literal ≡ true → AreInOrder 0 (leaves_from 0 structure.fields) structure.size → zeros ≡ replicate (item_size descr) 0 →
+    item ≡ put_leaves zeros (leaves_from 0 structure.fields) (values_of (RecordDescr structure) literal) → (item ≡ encode_item descr (values_of descr literal)) × (decode_item descr item ≡ values_of descr literal)
+record_cast descr structure literal zeros item is can order blank put =
+    let leaves = leaves_from 0 structure.fields in
+    let values = values_of (RecordDescr structure) literal in
+    let sound = item_sound (RecordDescr structure) literal (rw is at can) in
+    let written = put ∙ ap (λ bytes. put_leaves bytes leaves values) (blank ∙ ap (λ d. replicate (item_size d) 0) is) ∙ put_encoded structure.size leaves values order sound in
+    rw is (written, put_read structure.size leaves values item order sound written)
 
 -- the values of a literal: one for all leaves, or one for each field
 pub put_all : (bytes : List ℕ) (structure : Structure) (literal : Literal) (value : ScalarLiteral) (leaves : List Leaf) → literal ≡ ScalarOf value → leaves ≡ leaves_from 0 structure.fields → put_leaves bytes leaves (map (λ leaf. leaf_value leaf.scalar value) leaves) ≡ put_leaves bytes (leaves_from 0 structure.fields) (values_of (RecordDescr structure) literal)

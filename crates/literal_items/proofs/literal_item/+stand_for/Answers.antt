@@ -1,7 +1,7 @@
 use Rattle.std.proofs.Common.{sym, ap, ◌∙◌, arith}
-use Rattle.literal_items.proofs.Words.{total, listed, weight, weight-one, seen_fields, all_values, stand_for, passes}
+use Rattle.literal_items.proofs.Words.{drop_all, total, listed, weight, weight-one, seen_fields, all_values, stand_for, passes}
 use Rattle.std.proofs.lemmas.Bool.{false_from_ne_true}
-use Rattle.literal_items.proofs.Fields.{IsTurn, turn_fails, turn_passes, none_left, stand_for-record, stand_for-length}
+use Rattle.literal_items.proofs.Fields.{IsTurn, turn_fails, turn_passes, stand_for-record, stand_for-length}
 use Rattle.literal_items.proofs.literal_item.+stand_for.Goals as goal
 
 pub stands_for-stand_for-requires : goal.stands_for-stand_for-requires
@@ -36,4 +36,6 @@ stand_for-loop-k-preserved t c =
 
 pub stand_for-returns : goal.stand_for-returns
 stand_for-returns t c =
-    sym (sym c.loop-k.invariant ∙ none_left (passes c.args.test) c.args.fields.now c.args.literals.now c.loop-k.k c.loop-k-test.false (omega (arith, c.loop-k-test.false, c.if-fields-literals.false)))
+    let fields = drop_all c.loop-k.k c.args.fields.now c.loop-k-test.false in
+    let literals = drop_all c.loop-k.k c.args.literals.now (omega (arith, c.loop-k-test.false, c.if-fields-literals.false)) in
+    sym (sym c.loop-k.invariant ∙ (λ i. stand_for (passes c.args.test) (listed (fields i)) (all_values (literals i))))

@@ -1,6 +1,6 @@
 use Rattle.std.proofs.Common.{◌+◌, drop, sym, ap, ◌∙◌, arith, rules, refl}
-use Rattle.literal_items.proofs.Words.{total, item_size, leaves_from, weight, weight-one, seen_fields, all_values, is_castable, can_hold, field_values, put_leaves}
-use Rattle.literal_items.proofs.Fields.{IsTurn, turn_passes, turn_passed, stand_for-literals, stand_for-length, turn_within, put_record, put_fields, put_fields-at, put_fields-none}
+use Rattle.literal_items.proofs.Words.{drop_all, total, item_size, leaves_from, weight, weight-one, seen_fields, all_values, is_castable, can_hold, field_values, put_leaves}
+use Rattle.literal_items.proofs.Fields.{IsTurn, turn_passes, turn_passed, stand_for-literals, stand_for-length, turn_within, put_record, put_fields, put_fields-at}
 use Rattle.literal_items.proofs.literal_item.+write_fields.Goals as goal
 
 pub write_field-write_fields-requires : goal.write_field-write_fields-requires
@@ -50,6 +50,6 @@ write_fields-loop-k-preserved t c =
 
 pub write_fields-returns-clause-written : goal.write_fields-returns-clause-written
 write_fields-returns-clause-written t c =
-    sym (put_fields-none c.loop-k.item c.args.from c.fields-fields.result.now (drop c.loop-k.k c.args.literals.now) c.loop-k.k c.loop-k-test.false)
+    sym (ap (λ left. put_fields c.loop-k.item c.args.from left (drop c.loop-k.k c.args.literals.now)) (drop_all c.loop-k.k c.fields-fields.result.now c.loop-k-test.false))
     ∙ c.loop-k.invariant.left
     ∙ ap (λ fields. put_leaves c.args.item.now (leaves_from c.args.from fields) (field_values fields (all_values c.args.literals.now))) (seen_fields c.fields-fields.result.now c.args.structure.now.fields c.fields-fields.ensures.value)

@@ -1,6 +1,5 @@
 use Rattle.std.proofs.Common.{◌≡◌, ◌+◌, ◌-◌, ◌*◌, ◌<◌, ◌≤◌, length, drop, take, map, sym, ap, ◌∙◌, ◌++◌, [], ◌∷◌, arith, add-mul, length-take, length-drop}
-use Rattle.literal_items.proofs.Words.{map-append, mul-le-mul_right, item_size, encode_item, decode_item, values_of}
-use Rattle.literal_items.proofs.Lists.{map_more}
+use Rattle.literal_items.proofs.Words.{take_more, map-append, mul-le-mul_right, item_size, encode_item, decode_item, values_of}
 use Rattle.literal_items.proofs.Blocked.{blocks-put, map-blocks-put}
 use Rattle.literal_items.proofs.literal_item.write_casts.Goals as goal
 
@@ -23,7 +22,8 @@ loop-k-preserved c =
     let whole = part ∙ c.size-size.ensures.value in
     let encoded = c.write_cast.ensures.encoded in
     let reads_back = c.write_cast.ensures.reads_back in
-    let values = map_more (values_of descr) literals c.loop-k.k literal near is in
+    let values = ap (map (values_of descr)) (take_more literals c.loop-k.k literal near ∙ ap (λ next. take c.loop-k.k literals ++ next ∷ []) is)
+    ∙ map-append (values_of descr) (take c.loop-k.k literals) (literal ∷ []) in
     record {
       encoded = blocks-put (item_size descr) c.loop-k.k (c.loop-k.k * width) c.loop-k.block item rest at within whole
           ∙ (λ i. c.loop-k.invariant.encoded i ++ encoded i ∷ [])

@@ -1,6 +1,6 @@
-use Rattle.std.proofs.Common.{◌≡◌, ◌*◌, ◌++◌, true, [], ◌∷◌, length, map, sym, ap, ◌∙◌, inr}
-use Rattle.literal_items.proofs.Words.{list_all, err_from_is_err_and, ScalarDescr, number, is_value, size, items_in, numbers_from, joined, numbered}
-use Rattle.literal_items.proofs.Counted.{numbers_read, length-numbered}
+use Rattle.std.proofs.Common.{pos, ◌+ℤ◌, ◌*ℤ◌, ◌≡◌, ◌*◌, ◌++◌, true, [], ◌∷◌, length, map, sym, ap, ◌∙◌, inr}
+use Rattle.literal_items.proofs.Words.{length-joined, length-encode, list_all, err_from_is_err_and, ScalarDescr, number, is_value, size, items_in, numbers_from, joined, numbered}
+use Rattle.literal_items.proofs.Counted.{numbers_read}
 use Rattle.literal_items.proofs.Stepping.{range_items-refused, range_items-beyond, range_items-ok}
 use Rattle.literal_items.proofs.range.range_block.Goals as goal
 
@@ -18,7 +18,9 @@ pub returns-clause-whole : goal.returns-clause-whole
 returns-clause-whole c =
     let made = numbered c.args.scalar.now c.args.start.now c.args.step.now in
     let bytes : c.finish.result ≡ joined made c.in_ok-count.count = c.finish.ensures ∙ c.on_number.ensures.0 ∙ ap (λ b. b.0 ++ joined made c.in_ok-count.count) c.in_ok-block.ensures in
-    ap length bytes ∙ length-numbered c.args.scalar.now c.args.start.now c.args.step.now c.in_ok-count.count c.requires.number ∙ ap (λ n. n * size c.args.scalar.now) c.in_ok-count.ensures.count
+    ap length bytes
+    ∙ length-joined made (size c.args.scalar.now) c.in_ok-count.count (λ k low. length-encode c.args.scalar.now (number (c.args.start.now +ℤ c.args.step.now *ℤ pos k)))
+    ∙ ap (λ n. n * size c.args.scalar.now) c.in_ok-count.ensures.count
 
 pub returns-clause-items : goal.returns-clause-items
 returns-clause-items c =

@@ -1,7 +1,6 @@
 use Rattle.std.proofs.Common.{◌≡◌, ◌+◌, ◌*◌, ◌%◌, ◌^◌, ◌≤◌, ◌++◌, suc, pos, ◌+ℤ◌, ◌*ℤ◌, sym, ap, ◌∙◌, append_assoc, append-nil, arith, add-mul}
-use Rattle.literal_items.proofs.Words.{suc-mul, zero-mul, mul-le-mul_right, number, encode, low_bits, none_more, joined, numbered}
+use Rattle.literal_items.proofs.Words.{Decides-int_eq, wrap, suc-mul, zero-mul, mul-le-mul_right, number, encode, low_bits, none_more, joined, numbered}
 use Rattle.literal_items.proofs.Counted.{next_bits, bits_of_value, value_at}
-use Rattle.literal_items.proofs.Scalars.{wrap_is}
 use Rattle.literal_items.proofs.range.CountingNumberTask.run.Goals as goal
 
 pub loop-done-init : goal.loop-done-init
@@ -29,7 +28,7 @@ loop-done-preserved g c =
     let z = start +ℤ step *ℤ pos k in
     let held = value_at scalar start step c.args.self.count k c.requires.0 c.loop-done-test.true in
     let are = bits_of_value scalar z c.loop-done.bits (g.met.N.Number.is_number g.O.Ordered.order) held c.loop-done.invariant.bits in
-    let is : g.N.Number.value c.of_bits.result ≡ z = c.of_bits.ensures g.O.Ordered.order z are ∙ wrap_is scalar z held in
+    let is : g.N.Number.value c.of_bits.result ≡ z = c.of_bits.ensures g.O.Ordered.order z are ∙ (Decides-int_eq (wrap scalar z) z).0 held in
     let next : suc k ≡ k + 1 = omega arith in
     record {
       bits = ap (λ s. (c.loop-done.bits + s) % 2 ^ 64) c.low_bits-step.ensures ∙ next_bits start step k c.loop-done.bits c.loop-done.invariant.bits;
