@@ -1,24 +1,15 @@
 use Rattle.std.proofs.Common.{◌<◌, ◌≡◌, [], ◌++◌, sym, subst, ◌∙◌, ap, arith}
 use Rattle.array_print.proofs.Words.{count, Sends, SendsPart, appends_nothing}
-use Rattle.array_print.proofs.PartLaws.{whole-part}
-use Rattle.array_print.proofs.WholeLaws.{whole-text, whole-widths}
+use Rattle.array_print.proofs.WholeLaws.{whole-text, whole-items}
 use Rattle.array_print.proofs.bands.print_by_bands.Goals as goal
 
 pub push_block-requires : goal.push_block-requires
 push_block-requires g c =
-    let some : 0 < count c.args.layout.now.shape = omega (arith, c.if-items-eq0.false, c.items.ensures.value) in
-    record {
-      widths = whole-widths c.args.descr.now c.args.layout.now c.args.block.now _ (c.as_slice.ensures ∙ c.in_ok-widths.ensures);
-      part = whole-part c.args.layout.now _ _ some c.requires.inside;
-    }
+    whole-items _ c.args.layout.now (omega (arith, c.if-items-eq0.false, c.items.ensures.value)) (c.as_slice.ensures ∙ c.in_ok-widths.ensures) c.requires.inside
 
 pub send_block-requires-clause-items : goal.send_block-requires-clause-items
 send_block-requires-clause-items g c =
-    let some : 0 < count c.args.layout.now.shape = omega (arith, c.if-items-eq0.false, c.items.ensures.value) in
-    record {
-      widths = whole-widths c.args.descr.now c.args.layout.now c.args.block.now _ (c.as_slice.ensures ∙ c.in_ok-widths.ensures);
-      part = whole-part c.args.layout.now _ _ some c.requires.inside;
-    }
+    whole-items _ c.args.layout.now (omega (arith, c.if-items-eq0.false, c.items.ensures.value)) (c.as_slice.ensures ∙ c.in_ok-widths.ensures) c.requires.inside
 
 pub returns-then-small-eq0-clause-ok : goal.returns-then-small-eq0-clause-ok
 returns-then-small-eq0-clause-ok g c =

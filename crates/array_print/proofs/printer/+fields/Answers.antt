@@ -1,6 +1,7 @@
-use Rattle.std.proofs.Common.{◌≡◌, ◌+◌, ◌<◌, ◌++◌, ℕ, List, [], ◌∷◌, codes, get_or, length, take, drop, sym, ap, ◌∙◌, append_assoc, arith, rules, take_all}
-use Rattle.array_print.proofs.Words.{drop-drop, get_or_default, on_ok_weaker, IfOk-weaker, Descr, Field, Structure, total, fields_of, listed, leaf_count, leaves_of, weight, rest_at, weight-one, leaf_count-before, length-leaves_from, RecordDescr, join_texts, record_end, field_texts, structure_text, in_parentheses, first_text, lead, texts_at, StartsWith-trans}
+use Rattle.std.proofs.Common.{◌≡◌, ◌+◌, ◌<◌, ◌++◌, ℕ, List, [], ◌∷◌, codes, get_or, length, take, drop, sym, subst, ap, ◌∙◌, append_assoc, arith, rules, take_all}
+use Rattle.array_print.proofs.Words.{drop-drop, get_or_default, IfOk-weaker, Descr, Field, Structure, total, fields_of, listed, leaf_count, leaves_of, weight, rest_at, weight-one, leaf_count-before, length-leaves_from, RecordDescr, join_texts, record_end, field_texts, structure_text, in_parentheses, first_text, lead, texts_at, StartsWith-trans}
 use Rattle.elem_descr.specs.DescriptorLaws.{seen_fields}
+use Rattle.array_print.specs.inside.Pushed.{Pushes}
 use Rattle.array_print.proofs.LeafLaws.{joined-take-more, field_texts-before, length-field_texts}
 use Rattle.array_print.proofs.PrintLaws.{StartsWith-along, StartsWith-pushed, regroup}
 use Rattle.array_print.proofs.printer.+fields.Goals as goal
@@ -41,13 +42,7 @@ push_field-push_record-requires t c =
 pub push_field-returns-in-Record-clause-text : goal.push_field-returns-in-Record-clause-text
 push_field-returns-in-Record-clause-text t c =
     let texts = drop c.args.k (texts_at c.args.items.now.descr.now c.args.items.now.widths.now c.args.items.now.block.now c.args.offset) in
-    record {
-      ok = on_ok_weaker c.push_record.result
-          (λ pushed. pushed ∙ ap (λ text. c.args.out.now.items ++ text) (field-text c.args.descr.now c.in-Record.inner c.fields.result.now texts c.in-Record.is c.fields.ensures.value))
-          c.push_record.ensures.text.ok;
-      kept = c.push_record.ensures.text.kept;
-      room = c.push_record.ensures.text.room;
-    }
+    subst (λ text. Pushes text c.push_record.result c.args.out.now c.push_record.new.out) (field-text c.args.descr.now c.in-Record.inner c.fields.result.now texts c.in-Record.is c.fields.ensures.value) c.push_record.ensures.text
 
 pub push_field-returns-in-Record-clause-next : goal.push_field-returns-in-Record-clause-next
 push_field-returns-in-Record-clause-next t c =

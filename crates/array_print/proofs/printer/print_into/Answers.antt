@@ -1,17 +1,12 @@
 use Rattle.std.proofs.Common.{true, Result, Ok, Err, is_err, ◌<◌, ◌≡◌, ◌++◌, sym, ◌∙◌, ap, OnOk, arith}
 use Rattle.array_print.proofs.Words.{on_ok_weaker, count}
-use Rattle.array_print.proofs.PartLaws.{whole-part}
-use Rattle.array_print.proofs.WholeLaws.{whole-text, whole-widths}
+use Rattle.array_print.proofs.WholeLaws.{whole-text, whole-items}
 use Rattle.array_print.proofs.printer.print_into.Goals.{then-is_err, else-is_err}
 use Rattle.array_print.proofs.printer.print_into.Goals as goal
 
 pub push_block-printed-requires : goal.push_block-printed-requires
 push_block-printed-requires c =
-    let some : 0 < count c.args.layout.now.shape = omega (arith, c.if-items-eq0.false, c.items.ensures.value) in
-    record {
-      widths = whole-widths c.args.descr.now c.args.layout.now c.args.block.now _ (c.as_slice.ensures ∙ c.in_ok-widths.ensures);
-      part = whole-part c.args.layout.now _ _ some c.requires.inside;
-    }
+    whole-items _ c.args.layout.now (omega (arith, c.if-items-eq0.false, c.items.ensures.value)) (c.as_slice.ensures ∙ c.in_ok-widths.ensures) c.requires.inside
 
 failed : {A E : Type 0} (r : Result A E) (P : Type 0) → is_err r ≡ true → OnOk r P
 failed (Ok x) P is = cc

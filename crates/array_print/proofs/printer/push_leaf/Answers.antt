@@ -1,15 +1,15 @@
-use Rattle.std.proofs.Common.{◌≡◌, ◌+◌, ◌<◌, ◌≤◌, ◌++◌, ℕ, List, [], get_or, length, take, drop, sym, ap, ◌∙◌, arith, IfSome, slice_get}
-use Rattle.array_print.proofs.Words.{on_ok_weaker, Scalar, Descr, size, decode, item_size, leaves_of, right_justified, leaf_text, AreWidths, texts_at}
+use Rattle.std.proofs.Common.{◌≡◌, ◌+◌, ◌<◌, ◌≤◌, ◌++◌, ℕ, List, [], get_or, length, take, drop, sym, subst, ap, ◌∙◌, arith, IfSome, slice_get}
+use Rattle.array_print.proofs.Words.{Scalar, Descr, size, decode, item_size, leaves_of, right_justified, leaf_text, AreWidths, texts_at}
+use Rattle.array_print.specs.inside.Pushed.{Pushes}
 use Rattle.array_print.proofs.LeafLaws.{bytes-at, count-widths, width-at, text-at}
 use Rattle.array_print.proofs.printer.push_leaf.Goals as goal
 
--- the appended text is that of the leaf
-pushed-leaf : (descr : Descr) (ws block old new : List ℕ) (offset k at wide : ℕ) (scalar : Scalar) → AreWidths (leaves_of descr) ws → k < length (leaves_of descr) → IfSome (slice_get (leaves_of descr) k) (λ leaf. (scalar ≡ leaf.scalar) × (at ≡ leaf.at)) →
-    at + size scalar ≤ item_size descr → wide ≡ size scalar → new ≡ old ++ right_justified (get_or ws k 0) (leaf_text scalar (decode scalar (take wide (drop (offset + at) block)))) → new ≡ old ++ get_or (texts_at descr ws block offset) k []
-pushed-leaf descr ws block old new offset k at wide scalar are below is fits whole pushed =
-    pushed
-    ∙ ap (λ bytes. old ++ right_justified (get_or ws k 0) (leaf_text scalar (decode scalar bytes))) (ap (λ n. take n (drop (offset + at) block)) whole ∙ sym (bytes-at block offset at (size scalar) (item_size descr) fits))
-    ∙ ap (λ text. old ++ text) (sym (text-at (leaves_of descr) ws (take (item_size descr) (drop offset block)) k scalar at are below is))
+-- the text of the leaf's bytes is the leaf's text
+leaf-text : (descr : Descr) (ws block : List ℕ) (offset k at wide : ℕ) (scalar : Scalar) → AreWidths (leaves_of descr) ws → k < length (leaves_of descr) → IfSome (slice_get (leaves_of descr) k) (λ leaf. (scalar ≡ leaf.scalar) × (at ≡ leaf.at)) →
+    at + size scalar ≤ item_size descr → wide ≡ size scalar → right_justified (get_or ws k 0) (leaf_text scalar (decode scalar (take wide (drop (offset + at) block)))) ≡ get_or (texts_at descr ws block offset) k []
+leaf-text descr ws block offset k at wide scalar are below is fits whole =
+    ap (λ bytes. right_justified (get_or ws k 0) (leaf_text scalar (decode scalar bytes))) (ap (λ n. take n (drop (offset + at) block)) whole ∙ sym (bytes-at block offset at (size scalar) (item_size descr) fits))
+    ∙ sym (text-at (leaves_of descr) ws (take (item_size descr) (drop offset block)) k scalar at are below is)
 
 pub bounds-items-k : goal.bounds-items-k
 bounds-items-k c = omega (arith, count-widths (leaves_of c.args.items.now.descr.now) c.args.items.now.widths.now c.requires.item.widths, c.requires.leaf)
@@ -19,10 +19,6 @@ push_value-requires-clause-width c =
     width-at (leaves_of c.args.items.now.descr.now) c.args.items.now.widths.now c.args.k c.leaf_at-scalar.result.0 c.leaf_at-scalar.result.1 c.requires.item.widths c.requires.leaf c.leaf_at-scalar.ensures.leaf
 
 pub returns : goal.returns
-returns c = record {
-  ok = on_ok_weaker c.push_value.result
-      (λ pushed. pushed-leaf c.args.items.now.descr.now c.args.items.now.widths.now c.args.items.now.block.now c.args.out.now.items c.push_value.new.out.items c.args.offset c.args.k c.leaf_at-scalar.result.1 _ c.leaf_at-scalar.result.0 c.requires.item.widths c.requires.leaf c.leaf_at-scalar.ensures.leaf c.leaf_at-scalar.ensures.within (omega (arith, c.size.ensures.value)) pushed)
-      c.push_value.ensures.ok;
-  kept = c.push_value.ensures.kept;
-  room = c.push_value.ensures.room;
-}
+returns c =
+    let text = leaf-text c.args.items.now.descr.now c.args.items.now.widths.now c.args.items.now.block.now c.args.offset c.args.k c.leaf_at-scalar.result.1 _ c.leaf_at-scalar.result.0 c.requires.item.widths c.requires.leaf c.leaf_at-scalar.ensures.leaf c.leaf_at-scalar.ensures.within (omega (arith, c.size.ensures.value)) in
+    subst (λ text. Pushes text c.push_value.result c.args.out.now c.push_value.new.out) text c.push_value.ensures
