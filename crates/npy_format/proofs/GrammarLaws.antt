@@ -54,29 +54,19 @@ module _ (value value' : List Token → Read Literal) (h : (toks : List Token) �
 
 pub literal_less : (depth : ℕ) (toks : List Token) → Less (literal_in depth toks) (literal_in (suc depth) toks)
 unfolding literal_in
-literal_less depth [] = λ y is. is
-literal_less depth (token.Text bytes ∷ rest) = λ y is. is
-literal_less depth (token.Integer n ∷ rest) = λ y is. is
-literal_less depth (token.Truth truth ∷ rest) = λ y is. is
-literal_less depth (token.Nothing ∷ rest) = λ y is. is
-literal_less depth (token.Stray ∷ rest) = λ y is. is
 literal_less zero (token.Symbol b ∷ rest) = λ y is. cc
 literal_less (suc depth) (token.Symbol b ∷ rest) = bracketed_less (literal_in depth) (literal_in (suc depth)) (literal_less depth) b rest
+literal_less depth _ = λ y is. is
 
 -- ---- what is read takes at least one token
 
 pub symbol_shorter : (b : ℕ) (toks rest : List Token) → Some rest ≡ symbol_token_at b toks → length toks ≡ suc (length rest)
-symbol_shorter b [] rest is = cc
-symbol_shorter b (token.Text bytes ∷ toks) rest is = cc
-symbol_shorter b (token.Integer n ∷ toks) rest is = cc
-symbol_shorter b (token.Truth truth ∷ toks) rest is = cc
-symbol_shorter b (token.Nothing ∷ toks) rest is = cc
-symbol_shorter b (token.Stray ∷ toks) rest is = cc
 symbol_shorter b (token.Symbol c ∷ toks) rest is = chosen (nat_eq c b) is
   where
     chosen : (same : Bool) → Some rest ≡ (if same then Some toks else None) → suc (length toks) ≡ suc (length rest)
     chosen true is = let e : toks ≡ rest = cc in ap (λ (l : List Token). suc (length l)) e
     chosen false is = cc
+symbol_shorter b _ rest is = cc
 
 -- if something is read, fewer than `n` tokens remain
 abbrev Leaves : {A : Type 0} → ℕ → Read A → Type 0
@@ -154,11 +144,9 @@ module _ (value : List Token → Read Literal) (h : Shortens value) where
 
 pub literal_leaves : (depth : ℕ) → Shortens (literal_in depth)
 unfolding literal_in
-literal_leaves depth [] = err_leaves _ _
 literal_leaves depth (token.Text bytes ∷ rest) = ends_leaves _ _ rest (omega arith)
 literal_leaves depth (token.Integer n ∷ rest) = ends_leaves _ _ rest (omega arith)
 literal_leaves depth (token.Truth truth ∷ rest) = ends_leaves _ _ rest (omega arith)
 literal_leaves depth (token.Nothing ∷ rest) = ends_leaves _ _ rest (omega arith)
-literal_leaves depth (token.Stray ∷ rest) = err_leaves _ _
-literal_leaves zero (token.Symbol b ∷ rest) = err_leaves _ _
 literal_leaves (suc depth) (token.Symbol b ∷ rest) = weaker_leaves (length rest) (suc (length rest)) _ (omega arith) (bracketed_leaves (literal_in depth) (literal_leaves depth) b rest)
+literal_leaves _ _ = err_leaves _ _

@@ -12,18 +12,13 @@ same_read {A} {B} a a' b b' r is is' = let same : (a, b) ≡ (a', b') = cc in (a
 
 -- A token is not two different symbols.
 one_symbol : (b c : ℕ) → b ≢ c → (toks rest : List Token) → Some rest ≡ symbol_token_at b toks → None ≡ symbol_token_at c toks
-one_symbol b c other [] rest is = refl
-one_symbol b c other (token.Text bytes ∷ toks) rest is = refl
-one_symbol b c other (token.Integer n ∷ toks) rest is = refl
-one_symbol b c other (token.Truth truth ∷ toks) rest is = refl
-one_symbol b c other (token.Nothing ∷ toks) rest is = refl
-one_symbol b c other (token.Stray ∷ toks) rest is = refl
 one_symbol b c other (token.Symbol d ∷ toks) rest is = chosen (nat_eq d b) (nat_eq d c) refl refl is
   where
     chosen : (p q : Bool) → nat_eq d b ≡ p → nat_eq d c ≡ q → Some rest ≡ (if p then Some toks else None) → None ≡ (if q then Some toks else None)
     chosen p false e e' is = refl
     chosen false true e e' is = cc
     chosen true true e e' is = absurd (other (sym (eqb-true d b e) ∙ eqb-true d c e'))
+one_symbol b c other _ rest is = refl
 
 -- the first entry, and those after it
 pub record Next (A : Type 0) (entry : List Token → Read A) (closing : ℕ) (toks : List Token) (xs : List A) : Type 0 where
@@ -164,13 +159,12 @@ boxed_deeper depth b toks v (pairs_boxed at is) = pairs_boxed at is
 
 front_is : (toks : List Token) (v : Literal) (rest : List Token) → value_in toks ≡ Ok (v, rest) → Front toks v rest
 unfolding literal_in
-front_is [] v rest is = cc
 front_is (token.Text bytes ∷ toks) v rest is = let p = same_read (Plain (Text bytes)) v toks rest (Ok (Plain (Text bytes), toks)) refl is in text_front bytes (ap (λ (l : List Token). token.Text bytes ∷ l) p.1) (sym p.0)
 front_is (token.Integer n ∷ toks) v rest is = let p = same_read (Plain (Integer n)) v toks rest (Ok (Plain (Integer n), toks)) refl is in integer_front n (ap (λ (l : List Token). token.Integer n ∷ l) p.1) (sym p.0)
 front_is (token.Truth truth ∷ toks) v rest is = let p = same_read (Plain (Truth truth)) v toks rest (Ok (Plain (Truth truth), toks)) refl is in truth_front truth (ap (λ (l : List Token). token.Truth truth ∷ l) p.1) (sym p.0)
 front_is (token.Nothing ∷ toks) v rest is = let p = same_read (Plain Nothing) v toks rest (Ok (Plain Nothing, toks)) refl is in nothing_front (ap (λ (l : List Token). token.Nothing ∷ l) p.1) (sym p.0)
-front_is (token.Stray ∷ toks) v rest is = cc
 front_is (token.Symbol b ∷ toks) v rest is = boxed_front b toks refl (boxed_deeper 14 b toks v (boxed (literal_in 14) b toks v rest is))
+front_is _ v rest is = cc
 
 pub front_of : (toks : List Token) (v : Literal) → (s : Stands toks v) → Front toks v s.rest
 front_of toks v s = front_is toks v s.rest s.is

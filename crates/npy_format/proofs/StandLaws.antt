@@ -1,6 +1,6 @@
 -- What is found when a text is read a second time.
-use Rattle.std.proofs.Common.{◌≡◌, ◌≢◌, ℕ, true, false, List, [], ◌∷◌, Option, Some, None, Result, Ok, Err, refl, ap, sym, subst, ◌∙◌, arith, option_copied}
-use Rattle.npy_format.proofs.Words.{Bor, is_some, option_map, Refusal, BadHeader, BadDescriptor, DescriptorLeftOut, Structure, Partial, Token, tokens, Text, Integer, Round, Square, Literal, Plain, Row, all_listed_values, Read, symbol_token_at, literal_in, pad_in, type_in, descr_in, is_string, truth_of, integers_of, lengths_of, behind_comma, behind_entry, string_at, integer_at, truth_at, is_string_token, pad_at, StandIn, HasValues, Stands, value_in, name_and_type, entry_parts}
+use Rattle.std.proofs.Common.{◌≡◌, ◌≢◌, ℕ, true, false, List, [], ◌∷◌, Bool, Option, Some, None, Result, Ok, Err, refl, ap, sym, subst, ◌∙◌, arith, option_copied}
+use Rattle.npy_format.proofs.Words.{Bor, is_some, option_map, Refusal, BadHeader, BadDescriptor, DescriptorLeftOut, Structure, Partial, Token, tokens, Text, Integer, Truth, Nothing, Dictionary, Round, Square, Literal, Plain, Row, all_listed_values, Read, symbol_token_at, literal_in, pad_in, type_in, descr_in, is_string, truth_of, integers_of, lengths_of, behind_comma, behind_entry, string_at, integer_at, truth_at, is_string_token, pad_at, StandIn, HasValues, Stands, value_in, name_and_type, entry_parts}
 use Rattle.npy_format.specs.Tokens as token
 use Rattle.npy_format.proofs.ValueLaws.{literals_of_listed}
 use Rattle.npy_format.proofs.PlaceLaws.{stand_open, stand_closed, Front, text_front, integer_front, truth_front, nothing_front, boxed_front, tuple_boxed, list_boxed, pairs_boxed, front_of, same_read}
@@ -14,124 +14,86 @@ pub symbol_closed : (r : Option (Bor (List ℕ))) (there : Option (List Token)) 
 symbol_closed None there some is = cc
 symbol_closed (Some x) there some is = (tokens x.now, is)
 
+-- What holds for each kind of value, holds for what begins in any of these ways.
+module _ {toks : List Token} {v : Literal} {rest : List Token} (P : List Token → Literal → List Token → Type 0)
+    (text : (bytes : List ℕ) → P (token.Text bytes ∷ rest) (Plain (Text bytes)) rest)
+    (integer : (n : ℕ) → P (token.Integer n ∷ rest) (Plain (Integer n)) rest)
+    (truth : (b : Bool) → P (token.Truth b ∷ rest) (Plain (Truth b)) rest)
+    (nothing : P (token.Nothing ∷ rest) (Plain Nothing) rest)
+    (tuple : (inside : List Token) (vs : List Literal) → HasValues 41 inside vs → P (token.Symbol 40 ∷ inside) (Row Round (all_listed_values vs)) rest)
+    (list : (inside : List Token) (vs : List Literal) → HasValues 93 inside vs → P (token.Symbol 91 ∷ inside) (Row Square (all_listed_values vs)) rest)
+    (pairs : (inside : List Token) → P (token.Symbol 123 ∷ inside) (Plain Dictionary) rest) where
+  by_kind : Front toks v rest → P toks v rest
+  by_kind (text_front bytes e e') = rw (e, e') (text bytes)
+  by_kind (integer_front n e e') = rw (e, e') (integer n)
+  by_kind (truth_front b e e') = rw (e, e') (truth b)
+  by_kind (nothing_front e e') = rw (e, e') nothing
+  by_kind (boxed_front b inside e (tuple_boxed vs at e' st)) = rw (e, at, e') (tuple inside vs st)
+  by_kind (boxed_front b inside e (list_boxed vs at e' st)) = rw (e, at, e') (list inside vs st)
+  by_kind (boxed_front b inside e (pairs_boxed at e')) = rw (e, at, e') (pairs inside)
+
 -- ---- plain values
 
 module _ {toks : List Token} {v : Literal} {rest : List Token} where
   pub text_is : (key : List ℕ) → Front toks v rest → is_string_token key (string_at toks) ≡ is_string key v
-  text_is key (text_front bytes e e') = rw (e, e') refl
-  text_is key (integer_front n e e') = rw (e, e') refl
-  text_is key (truth_front truth e e') = rw (e, e') refl
-  text_is key (nothing_front e e') = rw (e, e') refl
-  text_is key (boxed_front b inside e (tuple_boxed vs at e' st)) = rw (e, e') refl
-  text_is key (boxed_front b inside e (list_boxed vs at e' st)) = rw (e, e') refl
-  text_is key (boxed_front b inside e (pairs_boxed at e')) = rw (e, e') refl
+  text_is key = by_kind (λ toks v rest. is_string_token key (string_at toks) ≡ is_string key v)
+    (λ bytes. refl) (λ n. refl) (λ b. refl) refl (λ inside vs st. refl) (λ inside vs st. refl) (λ inside. refl)
 
   pub truth_is : Front toks v rest → truth_at toks ≡ truth_of v
-  truth_is (text_front bytes e e') = rw (e, e') refl
-  truth_is (integer_front n e e') = rw (e, e') refl
-  truth_is (truth_front truth e e') = rw (e, e') refl
-  truth_is (nothing_front e e') = rw (e, e') refl
-  truth_is (boxed_front b inside e (tuple_boxed vs at e' st)) = rw (e, e') refl
-  truth_is (boxed_front b inside e (list_boxed vs at e' st)) = rw (e, e') refl
-  truth_is (boxed_front b inside e (pairs_boxed at e')) = rw (e, e') refl
+  truth_is = by_kind (λ toks v rest. truth_at toks ≡ truth_of v)
+    (λ bytes. refl) (λ n. refl) (λ b. refl) refl (λ inside vs st. refl) (λ inside vs st. refl) (λ inside. refl)
 
   pub pad_is : (p : Partial) → Front toks v rest → pad_at p (string_at toks) ≡ pad_in p v
-  pad_is p (text_front bytes e e') = rw (e, e') refl
-  pad_is p (integer_front n e e') = rw (e, e') refl
-  pad_is p (truth_front truth e e') = rw (e, e') refl
-  pad_is p (nothing_front e e') = rw (e, e') refl
-  pad_is p (boxed_front b inside e (tuple_boxed vs at e' st)) = rw (e, e') refl
-  pad_is p (boxed_front b inside e (list_boxed vs at e' st)) = rw (e, e') refl
-  pad_is p (boxed_front b inside e (pairs_boxed at e')) = rw (e, e') refl
+  pad_is p = by_kind (λ toks v rest. pad_at p (string_at toks) ≡ pad_in p v)
+    (λ bytes. refl) (λ n. refl) (λ b. refl) refl (λ inside vs st. refl) (λ inside vs st. refl) (λ inside. refl)
 
   -- ---- types
 
   pub string_stands : (found : List ℕ × List Token) → Some found ≡ string_at toks → Front toks v rest → v ≡ Plain (Text found.0)
-  string_stands found is (text_front bytes e e') = let w : Some found ≡ Some (bytes, rest) = rw e at is in let same : found ≡ (bytes, rest) = cc in e' ∙ ap (λ (f : List ℕ × List Token). Plain (Text f.0)) (sym same)
-  string_stands found is (integer_front n e e') = let w = rw e at is in cc
-  string_stands found is (truth_front truth e e') = let w = rw e at is in cc
-  string_stands found is (nothing_front e e') = let w = rw e at is in cc
-  string_stands found is (boxed_front b inside e box) = let w = rw e at is in cc
+  string_stands found is front = by_kind (λ toks v rest. Some found ≡ string_at toks → v ≡ Plain (Text found.0))
+    (λ bytes is. let same : found ≡ (bytes, rest) = cc in ap (λ (f : List ℕ × List Token). Plain (Text f.0)) (sym same))
+    (λ n is. cc) (λ b is. cc) (λ is. cc) (λ inside vs st is. cc) (λ inside vs st is. cc) (λ inside is. cc) front is
 
   pub list_stands : (inside : List Token) → Some inside ≡ symbol_token_at 91 toks → Front toks v rest → (vs : List Literal) × (v ≡ Row Square (all_listed_values vs)) × HasValues 93 inside vs
-  list_stands inside is (text_front bytes e e') = let w = rw e at is in cc
-  list_stands inside is (integer_front n e e') = let w = rw e at is in cc
-  list_stands inside is (truth_front truth e e') = let w = rw e at is in cc
-  list_stands inside is (nothing_front e e') = let w = rw e at is in cc
-  list_stands inside is (boxed_front b inside' e (tuple_boxed vs at e' st)) = let w = rw (e, at) at is in cc
-  list_stands inside is (boxed_front b inside' e (list_boxed vs at e' st)) =
-      let w : Some inside ≡ Some inside' = rw (e, at) at is in
-      let same : inside ≡ inside' = cc in
-      (vs, e', subst (λ (l : List Token). HasValues 93 l vs) (sym same) st)
-  list_stands inside is (boxed_front b inside' e (pairs_boxed at e')) = let w = rw (e, at) at is in cc
+  list_stands inside is front = by_kind (λ toks v rest. Some inside ≡ symbol_token_at 91 toks → (vs : List Literal) × (v ≡ Row Square (all_listed_values vs)) × HasValues 93 inside vs)
+    (λ bytes is. cc) (λ n is. cc) (λ b is. cc) (λ is. cc) (λ inside' vs st is. cc)
+    (λ inside' vs st is. let same : inside ≡ inside' = cc in (vs, refl, subst (λ (l : List Token). HasValues 93 l vs) (sym same) st))
+    (λ inside' is. cc) front is
 
   pub tuple_stands : (inside : List Token) → Some inside ≡ symbol_token_at 40 toks → Front toks v rest → (vs : List Literal) × (v ≡ Row Round (all_listed_values vs)) × HasValues 41 inside vs
-  tuple_stands inside is (text_front bytes e e') = let w = rw e at is in cc
-  tuple_stands inside is (integer_front n e e') = let w = rw e at is in cc
-  tuple_stands inside is (truth_front truth e e') = let w = rw e at is in cc
-  tuple_stands inside is (nothing_front e e') = let w = rw e at is in cc
-  tuple_stands inside is (boxed_front b inside' e (tuple_boxed vs at e' st)) =
-      let w : Some inside ≡ Some inside' = rw (e, at) at is in
-      let same : inside ≡ inside' = cc in
-      (vs, e', subst (λ (l : List Token). HasValues 41 l vs) (sym same) st)
-  tuple_stands inside is (boxed_front b inside' e (list_boxed vs at e' st)) = let w = rw (e, at) at is in cc
-  tuple_stands inside is (boxed_front b inside' e (pairs_boxed at e')) = let w = rw (e, at) at is in cc
+  tuple_stands inside is front = by_kind (λ toks v rest. Some inside ≡ symbol_token_at 40 toks → (vs : List Literal) × (v ≡ Row Round (all_listed_values vs)) × HasValues 41 inside vs)
+    (λ bytes is. cc) (λ n is. cc) (λ b is. cc) (λ is. cc)
+    (λ inside' vs st is. let same : inside ≡ inside' = cc in (vs, refl, subst (λ (l : List Token). HasValues 41 l vs) (sym same) st))
+    (λ inside' vs st is. cc) (λ inside' is. cc) front is
 
   pub no_type : None ≡ string_at toks → None ≡ symbol_token_at 91 toks → Front toks v rest → ((within : List Literal → Result Structure Refusal) → type_in within v ≡ Err DescriptorLeftOut) × (descr_in v ≡ Err BadDescriptor)
-  no_type no_text no_list (text_front bytes e e') = let w = rw e at no_text in cc
-  no_type no_text no_list (integer_front n e e') = (λ within. rw e' refl, rw e' refl)
-  no_type no_text no_list (truth_front truth e e') = (λ within. rw e' refl, rw e' refl)
-  no_type no_text no_list (nothing_front e e') = (λ within. rw e' refl, rw e' refl)
-  no_type no_text no_list (boxed_front b inside e (tuple_boxed vs at e' st)) = (λ within. rw e' refl, rw e' refl)
-  no_type no_text no_list (boxed_front b inside e (list_boxed vs at e' st)) = let w = rw (e, at) at no_list in cc
-  no_type no_text no_list (boxed_front b inside e (pairs_boxed at e')) = (λ within. rw e' refl, rw e' refl)
+  no_type no_text no_list front = by_kind (λ toks v rest. None ≡ string_at toks → None ≡ symbol_token_at 91 toks → ((within : List Literal → Result Structure Refusal) → type_in within v ≡ Err DescriptorLeftOut) × (descr_in v ≡ Err BadDescriptor))
+    (λ bytes no_text no_list. cc) (λ n no_text no_list. (λ within. refl, refl)) (λ b no_text no_list. (λ within. refl, refl)) (λ no_text no_list. (λ within. refl, refl))
+    (λ inside vs st no_text no_list. (λ within. refl, refl)) (λ inside vs st no_text no_list. cc) (λ inside no_text no_list. (λ within. refl, refl)) front no_text no_list
 
   pub no_tuple : None ≡ symbol_token_at 40 toks → Front toks v rest → (entry_parts v ≡ None) × (lengths_of v ≡ Err BadHeader)
-  no_tuple none (text_front bytes e e') = (rw e' refl, rw e' refl)
-  no_tuple none (integer_front n e e') = (rw e' refl, rw e' refl)
-  no_tuple none (truth_front truth e e') = (rw e' refl, rw e' refl)
-  no_tuple none (nothing_front e e') = (rw e' refl, rw e' refl)
-  no_tuple none (boxed_front b inside e (tuple_boxed vs at e' st)) = let w = rw (e, at) at none in cc
-  no_tuple none (boxed_front b inside e (list_boxed vs at e' st)) = (rw e' refl, rw e' refl)
-  no_tuple none (boxed_front b inside e (pairs_boxed at e')) = (rw e' refl, rw e' refl)
+  no_tuple none front = by_kind (λ toks v rest. None ≡ symbol_token_at 40 toks → (entry_parts v ≡ None) × (lengths_of v ≡ Err BadHeader))
+    (λ bytes none. (refl, refl)) (λ n none. (refl, refl)) (λ b none. (refl, refl)) (λ none. (refl, refl))
+    (λ inside vs st none. cc) (λ inside vs st none. (refl, refl)) (λ inside none. (refl, refl)) front none
 
   -- No value begins with a closing round bracket.
   pub no_end : Front toks v rest → None ≡ symbol_token_at 41 toks
-  no_end (text_front bytes e e') = rw e refl
-  no_end (integer_front n e e') = rw e refl
-  no_end (truth_front truth e e') = rw e refl
-  no_end (nothing_front e e') = rw e refl
-  no_end (boxed_front b inside e (tuple_boxed vs at e' st)) = rw (e, at) refl
-  no_end (boxed_front b inside e (list_boxed vs at e' st)) = rw (e, at) refl
-  no_end (boxed_front b inside e (pairs_boxed at e')) = rw (e, at) refl
+  no_end = by_kind (λ toks v rest. None ≡ symbol_token_at 41 toks)
+    (λ bytes. refl) (λ n. refl) (λ b. refl) refl (λ inside vs st. refl) (λ inside vs st. refl) (λ inside. refl)
 
   pub no_name : None ≡ string_at toks → (others : List Literal) → Front toks v rest → name_and_type (v ∷ others) ≡ None
-  no_name none others (text_front bytes e e') = let w = rw e at none in cc
-  no_name none others (integer_front n e e') = rw e' refl
-  no_name none others (truth_front truth e e') = rw e' refl
-  no_name none others (nothing_front e e') = rw e' refl
-  no_name none others (boxed_front b inside e (tuple_boxed vs at e' st)) = rw e' refl
-  no_name none others (boxed_front b inside e (list_boxed vs at e' st)) = rw e' refl
-  no_name none others (boxed_front b inside e (pairs_boxed at e')) = rw e' refl
+  no_name none others front = by_kind (λ toks v rest. None ≡ string_at toks → name_and_type (v ∷ others) ≡ None)
+    (λ bytes none. cc) (λ n none. refl) (λ b none. refl) (λ none. refl) (λ inside vs st none. refl) (λ inside vs st none. refl) (λ inside none. refl) front none
 
   pub no_integer : None ≡ integer_at toks → (others : List Literal) → Front toks v rest → integers_of (v ∷ others) ≡ Err BadHeader
-  no_integer none others (text_front bytes e e') = rw e' refl
-  no_integer none others (integer_front n e e') = let w = rw e at none in cc
-  no_integer none others (truth_front truth e e') = rw e' refl
-  no_integer none others (nothing_front e e') = rw e' refl
-  no_integer none others (boxed_front b inside e (tuple_boxed vs at e' st)) = rw e' refl
-  no_integer none others (boxed_front b inside e (list_boxed vs at e' st)) = rw e' refl
-  no_integer none others (boxed_front b inside e (pairs_boxed at e')) = rw e' refl
+  no_integer none others front = by_kind (λ toks v rest. None ≡ integer_at toks → integers_of (v ∷ others) ≡ Err BadHeader)
+    (λ bytes none. refl) (λ n none. cc) (λ b none. refl) (λ none. refl) (λ inside vs st none. refl) (λ inside vs st none. refl) (λ inside none. refl) front none
 
   pub integer_stands : (found : ℕ × List Token) → Some found ≡ integer_at toks → Front toks v rest → (v ≡ Plain (Integer found.0)) × (rest ≡ found.1) × (None ≡ symbol_token_at 41 toks)
-  integer_stands found is (text_front bytes e e') = let w = rw e at is in cc
-  integer_stands found is (integer_front n e e') =
-      let w : Some found ≡ Some (n, rest) = rw e at is in
-      let same : found ≡ (n, rest) = cc in
-      (e' ∙ ap (λ (f : ℕ × List Token). Plain (Integer f.0)) (sym same), ap (λ (f : ℕ × List Token). f.1) (sym same), rw e refl)
-  integer_stands found is (truth_front truth e e') = let w = rw e at is in cc
-  integer_stands found is (nothing_front e e') = let w = rw e at is in cc
-  integer_stands found is (boxed_front b inside e box) = let w = rw e at is in cc
+  integer_stands found is front = by_kind (λ toks v rest. Some found ≡ integer_at toks → (v ≡ Plain (Integer found.0)) × (rest ≡ found.1) × (None ≡ symbol_token_at 41 toks))
+    (λ bytes is. cc)
+    (λ n is. let same : found ≡ (n, rest) = cc in (ap (λ (f : ℕ × List Token). Plain (Integer f.0)) (sym same), ap (λ (f : ℕ × List Token). f.1) (sym same), refl))
+    (λ b is. cc) (λ is. cc) (λ inside vs st is. cc) (λ inside vs st is. cc) (λ inside is. cc) front is
 
 -- ---- entries
 
@@ -155,13 +117,8 @@ module _ {A : Type 0} (entry : List Token → Read A) (closing : ℕ) (other : c
 -- ---- entries of a record, a tuple of a name and a type
 
 text_front_is : (toks : List Token) (found : List ℕ × List Token) → Some found ≡ string_at toks → toks ≡ token.Text found.0 ∷ found.1
-text_front_is [] found is = cc
 text_front_is (token.Text bytes ∷ toks) found is = let same : found ≡ (bytes, toks) = cc in ap (λ (f : List ℕ × List Token). token.Text f.0 ∷ f.1) (sym same)
-text_front_is (token.Integer n ∷ toks) found is = cc
-text_front_is (token.Truth truth ∷ toks) found is = cc
-text_front_is (token.Nothing ∷ toks) found is = cc
-text_front_is (token.Symbol b ∷ toks) found is = cc
-text_front_is (token.Stray ∷ toks) found is = cc
+text_front_is _ found is = cc
 
 pub no_44 : let n : ℕ = 41 in n ≢ 44
 no_44 wrong = omega (arith, wrong)
@@ -252,10 +209,5 @@ module _ (toks : List Token) (v : Literal) (s : Stands toks v) (inside : List To
 -- ---- the integers of a tuple
 
 pub integer_front_is : (toks : List Token) (found : ℕ × List Token) → Some found ≡ integer_at toks → toks ≡ token.Integer found.0 ∷ found.1
-integer_front_is [] found is = cc
-integer_front_is (token.Text bytes ∷ toks) found is = cc
 integer_front_is (token.Integer n ∷ toks) found is = let same : found ≡ (n, toks) = cc in ap (λ (f : ℕ × List Token). token.Integer f.0 ∷ f.1) (sym same)
-integer_front_is (token.Truth truth ∷ toks) found is = cc
-integer_front_is (token.Nothing ∷ toks) found is = cc
-integer_front_is (token.Symbol b ∷ toks) found is = cc
-integer_front_is (token.Stray ∷ toks) found is = cc
+integer_front_is _ found is = cc
