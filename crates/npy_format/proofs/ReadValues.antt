@@ -59,8 +59,6 @@ behind depth [] [] rest toks are more = record {
   reads = λ first before turns few none reads. rw (← none, reads) refl;
   longer = omega arith;
 }
-behind depth [] (value ∷ values) rest toks are more = absurd are
-behind depth (text ∷ texts) [] rest toks are more = absurd are
 behind depth (text ∷ texts) (value ∷ values) rest toks are more =
     let later = behind depth texts values rest toks are.1 more in
     let tail = separated false texts ++ (93 ∷ rest) in
@@ -76,6 +74,7 @@ behind depth (text ∷ texts) (value ∷ values) rest toks are more =
     next : (later : AreBehind depth 93 (separated false texts ++ (93 ∷ rest)) values toks) (one : IsRead depth (text ++ (separated false texts ++ (93 ∷ rest))) value later.tokens) (turns : ℕ) → length one.tokens < turns → entries_in (literal_in depth) 93 turns one.tokens ≡ Ok (value ∷ values, toks)
     next later one zero few = absurd (omega (arith, few))
     next later one (suc turns) few = later.reads value one.tokens turns (omega (arith, few, one.longer)) one.no_square one.reads
+behind depth _ _ rest toks are more = absurd are
 
 -- a list
 pub all_read : (depth : ℕ) (texts : List (List ℕ)) (values : List Literal) (rest : List ℕ) (toks : List Token) → AreValues depth texts values → Scans rest toks → AreRead depth 93 (separated true texts ++ (93 ∷ rest)) values toks
@@ -90,8 +89,6 @@ all_read depth [] [] rest toks are more = record {
     none_read : (turns : ℕ) → suc (length toks) ≤ turns → entries_in (literal_in depth) 93 turns (token.Symbol 93 ∷ toks) ≡ Ok ([], toks)
     none_read zero few = absurd (omega (arith, few))
     none_read (suc turns) few = refl
-all_read depth [] (value ∷ values) rest toks are more = absurd are
-all_read depth (text ∷ texts) [] rest toks are more = absurd are
 all_read depth (text ∷ texts) (value ∷ values) rest toks are more =
     let later = behind depth texts values rest toks are.1 more in
     let tail = separated false texts ++ (93 ∷ rest) in
@@ -107,6 +104,7 @@ all_read depth (text ∷ texts) (value ∷ values) rest toks are more =
     next : (later : AreBehind depth 93 (separated false texts ++ (93 ∷ rest)) values toks) (one : IsRead depth (text ++ (separated false texts ++ (93 ∷ rest))) value later.tokens) (turns : ℕ) → length one.tokens ≤ turns → entries_in (literal_in depth) 93 turns one.tokens ≡ Ok (value ∷ values, toks)
     next later one zero few = absurd (omega (arith, few, one.longer))
     next later one (suc turns) few = later.reads value one.tokens turns (omega (arith, few, one.longer)) one.no_square one.reads
+all_read depth _ _ rest toks are more = absurd are
 
 pub list_value : (depth : ℕ) (texts : List (List ℕ)) (values : List Literal) → AreValues depth texts values → IsValue (suc depth) (in_brackets texts) (Row Square (all_listed_values values))
 unfolding literal_in list_in
@@ -166,9 +164,8 @@ entry_values from (record_field name at width inner rest) bytes = gap_values (at
 
 AreValues-append : (depth : ℕ) (texts texts' : List (List ℕ)) (values values' : List Literal) → AreValues depth texts values → AreValues depth texts' values' → AreValues depth (texts ++ texts') (values ++ values')
 AreValues-append depth [] texts' [] values' are are' = are'
-AreValues-append depth [] texts' (value ∷ values) values' are are' = absurd are
-AreValues-append depth (text ∷ texts) texts' [] values' are are' = absurd are
 AreValues-append depth (text ∷ texts) texts' (value ∷ values) values' are are' = (are.0, AreValues-append depth texts texts' values values' are.1 are')
+AreValues-append depth _ texts' _ values' are are' = absurd are
 
 all-weaker : (p q : ℕ → Bool) → ((b : ℕ) → p b ≡ true → q b ≡ true) → (xs : List ℕ) → list_all p xs ≡ true → list_all q xs ≡ true
 all-weaker p q weaker [] all = refl
@@ -191,14 +188,10 @@ plain_name name legal =
     all-weaker is_field_name_byte (is_plain_byte 39) plain_name_byte name parts.1
 
 pub plain_spelling : (scalar : Scalar) → size scalar < 2 ^ 64 → list_all (is_plain_byte 39) (spelling scalar) ≡ true
-plain_spelling BoolScalar small = plain_decimal 1 small
 plain_spelling (Byte true) small = plain_decimal 1 small
-plain_spelling (Byte false) small = plain_decimal 1 small
 plain_spelling (Int true width Little) small = plain_decimal (width_size width) small
-plain_spelling (Int true width Big) small = plain_decimal (width_size width) small
 plain_spelling (Int false width Little) small = plain_decimal (width_size width) small
-plain_spelling (Int false width Big) small = plain_decimal (width_size width) small
-plain_spelling (Bytes n) small = plain_decimal n small
+plain_spelling scalar small = plain_decimal (size scalar) small
 
 gaps_are : (depth n : ℕ) → n < 2 ^ 64 → AreValues (suc depth) (gap n) (gap_values n)
 gaps_are depth zero small = tt

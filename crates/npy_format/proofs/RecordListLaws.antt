@@ -76,24 +76,13 @@ parts_in within p (Some parts) = if is_empty parts.0 then pad_in p parts.1 else 
 
 module _ (within : Reader) (p : Partial) where
   named_means : (values : List Literal) → named_in within p values ≡ parts_in within p (name_and_type values)
-  named_means [] = refl
-  named_means (Plain (Text name) ∷ []) = refl
-  named_means (Plain (Text name) ∷ type ∷ []) = refl
   named_means (Plain (Text name) ∷ type ∷ other ∷ more) = refl
-  named_means (Plain (Integer n) ∷ others) = refl
-  named_means (Plain (Truth truth) ∷ others) = refl
-  named_means (Plain Nothing ∷ others) = refl
-  named_means (Plain Dictionary ∷ others) = refl
-  named_means (Row brackets row ∷ others) = refl
+  named_means _ = refl
 
   pub entry_means : (v : Literal) → entry_in within p v ≡ parts_in within p (entry_parts v)
   entry_means (Row Round row) = named_means (value_literals row)
-  entry_means (Row Square row) = refl
   entry_means (Plain (Text name)) = refl
-  entry_means (Plain (Integer n)) = refl
-  entry_means (Plain (Truth truth)) = refl
-  entry_means (Plain Nothing) = refl
-  entry_means (Plain Dictionary) = refl
+  entry_means _ = refl
 
   module _ (v : Literal) (name : List ℕ) (type : Literal) (parts : entry_parts v ≡ Some (name, type)) where
     pub entry_pad : is_empty name ≡ true → entry_in within p v ≡ pad_in p type

@@ -22,9 +22,7 @@ value_again BoolScalar bytes long are = bool_value (decode BoolScalar bytes) ref
             let n = get_or bytes 0 0 + 256 * 0 in
             let same : truth (truth n) + 256 * 0 ≡ truth (truth n) = omega arith in
             ap (λ m. number (pos (truth m))) same ∙ ap (λ m. number (pos m)) (ap truth (truth-twice n) ∙ truth-twice n)
-value_again (Byte signed) bytes long are = ap (decode (Byte signed)) (scalar_again (Byte signed) bytes refl long are)
-value_again (Int signed width order) bytes long are = ap (decode (Int signed width order)) (scalar_again (Int signed width order) bytes refl long are)
-value_again (Bytes n) bytes long are = ap (decode (Bytes n)) (scalar_again (Bytes n) bytes refl long are)
+value_again scalar bytes long are = ap (decode scalar) (scalar_again scalar bytes refl long are)
 
 leaves_again : (front : List ℕ) (from bytes : ℕ) (leaves : List Leaf) (item : List ℕ) → length front ≡ from → AreInOrder from leaves bytes → length item ≡ bytes → AreBytes item
     → map (read_leaf (front ++ encode_from from leaves (map (read_leaf item) leaves) bytes)) leaves ≡ map (read_leaf item) leaves

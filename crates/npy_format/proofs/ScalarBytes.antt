@@ -21,9 +21,6 @@ high_are (suc n) x (suc k) = high_are n x k
 -- Bytes that mean the same number are the same.
 same_low : (n : ℕ) (xs ys : List ℕ) → length xs ≡ n → length ys ≡ n → AreBytes xs → AreBytes ys → little_from 0 n xs ≡ little_from 0 n ys → xs ≡ ys
 same_low n [] [] long long' are are' e = refl
-same_low n [] (y ∷ ys) long long' are are' e = absurd (omega (arith, long, long'))
-same_low n (x ∷ xs) [] long long' are are' e = absurd (omega (arith, long, long'))
-same_low zero (x ∷ xs) (y ∷ ys) long long' are are' e = absurd (omega (arith, long))
 same_low (suc n) (x ∷ xs) (y ∷ ys) long long' are are' e =
     let low : x < 256 = are 0 in
     let low' : y < 256 = are' 0 in
@@ -31,12 +28,10 @@ same_low (suc n) (x ∷ xs) (y ∷ ys) long long' are are' e =
     let head : x ≡ y = omega (arith, sum, low, low') in
     let rest : little_from 1 n (x ∷ xs) ≡ little_from 1 n (y ∷ ys) = omega (arith, sum, low, low') in
     λ i. head i ∷ same_low n xs ys (omega (arith, long)) (omega (arith, long')) (λ k. are (suc k)) (λ k. are' (suc k)) (sym (little_from-cons 0 n x xs) ∙ rest ∙ little_from-cons 0 n y ys) i
+same_low _ _ _ long long' are are' e = absurd (omega (arith, long, long'))
 
 same_high : (n : ℕ) (xs ys : List ℕ) → length xs ≡ n → length ys ≡ n → AreBytes xs → AreBytes ys → big_from 0 n xs ≡ big_from 0 n ys → xs ≡ ys
 same_high n [] [] long long' are are' e = refl
-same_high n [] (y ∷ ys) long long' are are' e = absurd (omega (arith, long, long'))
-same_high n (x ∷ xs) [] long long' are are' e = absurd (omega (arith, long, long'))
-same_high zero (x ∷ xs) (y ∷ ys) long long' are are' e = absurd (omega (arith, long))
 same_high (suc n) (x ∷ xs) (y ∷ ys) long long' are are' e =
     let below = big_from-lt 1 n (x ∷ xs) are in
     let below' = big_from-lt 1 n (y ∷ ys) are' in
@@ -44,6 +39,7 @@ same_high (suc n) (x ∷ xs) (y ∷ ys) long long' are are' e =
     let head : x ≡ y = sym (div-mul-add x (256 ^ n) (big_from 1 n (x ∷ xs)) below) ∙ ap (λ m. m / 256 ^ n) sum ∙ div-mul-add y (256 ^ n) (big_from 1 n (y ∷ ys)) below' in
     let rest : big_from 1 n (x ∷ xs) ≡ big_from 1 n (y ∷ ys) = omega (arith, sum, ap (λ m. m * 256 ^ n) head) in
     λ i. head i ∷ same_high n xs ys (omega (arith, long)) (omega (arith, long')) (λ k. are (suc k)) (λ k. are' (suc k)) (sym (big_from-cons 0 n x xs) ∙ rest ∙ big_from-cons 0 n y ys) i
+same_high _ _ _ long long' are are' e = absurd (omega (arith, long, long'))
 
 again : (order : Order) (n : ℕ) (bytes : List ℕ) → length bytes ≡ n → AreBytes bytes → bytes_of order n (number_in order n bytes) ≡ bytes
 again Little n bytes long are =

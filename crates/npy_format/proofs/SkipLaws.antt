@@ -26,14 +26,12 @@ module _ {A : Type 0} (entry : List Token → Read A) (shortens : Shortens entry
   pub entries_turns : (closing n m : ℕ) (toks : List Token) → length toks ≤ n → length toks ≤ m → entries_in entry closing n toks ≡ entries_in entry closing m toks
   unfolding entries_in
   entries_turns closing zero zero toks few few' = refl
-  entries_turns closing zero (suc m) [] few few' = rw none refl
-  entries_turns closing zero (suc m) (t ∷ toks) few few' = absurd (omega (arith, few))
-  entries_turns closing (suc n) zero [] few few' = rw none refl
-  entries_turns closing (suc n) zero (t ∷ toks) few few' = absurd (omega (arith, few'))
   entries_turns closing (suc n) (suc m) toks few few' =
       ap (if_read (symbol_token_at closing toks) list_end) (bind_same (entry toks) _ _ (λ first is. ap (λ (r : Read (List A)). r >>= λ others. Ok (first.0 ∷ others.0, others.1))
       (ap (if_read (symbol_token_at closing first.1) list_end) (found_same (symbol_token_at 44 first.1) _ _ (Err BadHeader) (λ b at.
       entries_turns closing n m b (omega (arith, few, shortens toks first is, symbol_shorter 44 first.1 b at)) (omega (arith, few', shortens toks first is, symbol_shorter 44 first.1 b at)))))))
+  entries_turns closing _ _ [] few few' = rw none refl
+  entries_turns closing _ _ (t ∷ toks) few few' = absurd (omega (arith, few, few'))
 
   module _ (closing : ℕ) (toks : List Token) where
     begins : behind_entries entry closing toks ≡ behind (entries_in entry closing (suc (length toks)) toks)

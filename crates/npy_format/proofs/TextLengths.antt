@@ -6,14 +6,10 @@ short_decimal : (n : ℕ) → n ≤ 65536 → length (decimal n) ≤ 5
 short_decimal n small = length-decimal-le 5 n (omega arith) (omega (arith, small)) (omega (arith, small))
 
 short_spelling : (scalar : Scalar) → size scalar ≤ 65536 → length (spelling scalar) ≤ 7
-short_spelling BoolScalar small = omega (arith, short_decimal 1 small)
 short_spelling (Byte true) small = omega (arith, short_decimal 1 small)
-short_spelling (Byte false) small = omega (arith, short_decimal 1 small)
 short_spelling (Int true width Little) small = omega (arith, short_decimal (size (Int true width Little)) small)
-short_spelling (Int true width Big) small = omega (arith, short_decimal (size (Int true width Big)) small)
 short_spelling (Int false width Little) small = omega (arith, short_decimal (size (Int false width Little)) small)
-short_spelling (Int false width Big) small = omega (arith, short_decimal (size (Int false width Big)) small)
-short_spelling (Bytes n) small = omega (arith, short_decimal n small)
+short_spelling scalar small = omega (arith, short_decimal (size scalar) small)
 
 length-quoted : (text : List ℕ) → length (quoted text) ≡ length text + 2
 length-quoted text = omega (arith, length-append text (codes "'"))

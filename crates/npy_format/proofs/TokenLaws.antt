@@ -5,13 +5,9 @@ use Rattle.npy_format.specs.Tokens.{Text}
 
 -- ---- a token takes at least one byte
 
-chosen : (is : Bool) (n : ℕ) (a b : List ℕ) → length a ≤ n → length b ≤ n → length (if is then a else b) ≤ n
-chosen true n a b few few' = few
-chosen false n a b few few' = few'
-
-chosen_pair : (is : Bool) (n : ℕ) (a b : Token × List ℕ) → length a.1 ≤ n → length b.1 ≤ n → length (if is then a else b).1 ≤ n
-chosen_pair true n a b few few' = few
-chosen_pair false n a b few few' = few'
+chosen : {A : Type 0} (P : A → Type 0) (is : Bool) (a b : A) → P a → P b → P (if is then a else b)
+chosen P true a b h k = h
+chosen P false a b h k = k
 
 shorter_drop : (n : ℕ) (xs : List ℕ) → length (drop n xs) ≤ length xs
 shorter_drop n xs = omega (arith, length-drop n xs)
@@ -21,11 +17,11 @@ shorter_text quote bytes = let n = prefix_len (is_plain_byte quote) bytes in end
   where
     ended : (plain rest : List ℕ) → length rest ≤ length bytes → length (ended_text plain quote rest).1 ≤ length bytes
     ended plain [] few = few
-    ended plain (b ∷ rest) few = chosen_pair (nat_eq b quote) (length bytes) (Text plain, rest) (Stray, rest) (omega (arith, few)) (omega (arith, few))
+    ended plain (b ∷ rest) few = chosen (λ (t : Token × List ℕ). length t.1 ≤ length bytes) (nat_eq b quote) (Text plain, rest) (Stray, rest) (omega (arith, few)) (omega (arith, few))
 
 shorter_long : (bytes : List ℕ) → length (behind_long bytes) ≤ length bytes
 shorter_long [] = omega arith
-shorter_long (b ∷ rest) = chosen (nat_eq b 76) (suc (length rest)) rest (b ∷ rest) (omega arith) (omega arith)
+shorter_long (b ∷ rest) = chosen (λ (l : List ℕ). length l ≤ suc (length rest)) (nat_eq b 76) rest (b ∷ rest) (omega arith) (omega arith)
 
 -- after a byte that passes a test, and those after it that pass
 shorter_front : (test : ℕ → Bool) (b : ℕ) (rest : List ℕ) → test b ≡ true → length (drop (prefix_len test (b ∷ rest)) (b ∷ rest)) ≤ length rest
@@ -50,10 +46,6 @@ shorter_token b rest = quoted (is_quote b) (is_ascii_digit b) (is_ascii_alphabet
 
 tokens_turns : (n m : ℕ) (bytes : List ℕ) → length bytes ≤ n → length bytes ≤ m → tokens_in n bytes ≡ tokens_in m bytes
 tokens_turns zero zero bytes few few' = refl
-tokens_turns zero (suc m) [] few few' = refl
-tokens_turns zero (suc m) (b ∷ bytes) few few' = absurd (omega (arith, few))
-tokens_turns (suc n) zero [] few few' = refl
-tokens_turns (suc n) zero (b ∷ bytes) few few' = absurd (omega (arith, few'))
 tokens_turns (suc n) (suc m) bytes few few' = first (tokens_turns n m) (unspaced_text bytes) (shorter_drop (prefix_len is_space bytes) bytes)
   where
     first : ((later : List ℕ) → length later ≤ n → length later ≤ m → tokens_in n later ≡ tokens_in m later) → (text : List ℕ) → length text ≤ length bytes → first_token (tokens_in n) text ≡ first_token (tokens_in m) text
@@ -62,6 +54,8 @@ tokens_turns (suc n) (suc m) bytes few few' = first (tokens_turns n m) (unspaced
         let t = token_from b rest in
         let shorter = shorter_token b rest in
         ap (λ (toks : List Token). t.0 ∷ toks) (later t.1 (omega (arith, few, less, shorter)) (omega (arith, few', less, shorter)))
+tokens_turns _ _ [] few few' = refl
+tokens_turns _ _ (b ∷ bytes) few few' = absurd (omega (arith, few, few'))
 
 pub tokens_any_turns : (turns : ℕ) (text : List ℕ) → length text ≤ turns → tokens_in turns text ≡ tokens text
 unfolding tokens

@@ -27,16 +27,14 @@ length-written from (leaf ∷ leaves) item bytes order =
 -- ---- bytes and their limits
 
 pub length-capped : (bytes limits : List ℕ) → length (capped bytes limits) ≡ length bytes
-length-capped [] limits = refl
-length-capped (b ∷ bytes) [] = refl
 length-capped (b ∷ bytes) (l ∷ limits) = ap suc (length-capped bytes limits)
+length-capped _ _ = refl
 
 -- bytes in two parts, each with its limits
 pub capped-append : (bytes limits more later : List ℕ) → length bytes ≡ length limits → capped (bytes ++ more) (limits ++ later) ≡ capped bytes limits ++ capped more later
 capped-append [] [] more later same = refl
-capped-append [] (l ∷ limits) more later same = absurd (omega (arith, same))
-capped-append (b ∷ bytes) [] more later same = absurd (omega (arith, same))
 capped-append (b ∷ bytes) (l ∷ limits) more later same = ap (λ xs. min b l ∷ xs) (capped-append bytes limits more later (omega (arith, same)))
+capped-append _ _ more later same = absurd (omega (arith, same))
 
 -- limits beyond the bytes change nothing
 pub capped-enough : (bytes limits later : List ℕ) → length bytes ≤ length limits → capped bytes (limits ++ later) ≡ capped bytes limits
@@ -46,9 +44,8 @@ capped-enough (b ∷ bytes) (l ∷ limits) later low = ap (λ xs. min b l ∷ xs
 
 capped-zeros : (n : ℕ) (bytes : List ℕ) → length bytes ≡ n → capped bytes (replicate n 0) ≡ replicate n 0
 capped-zeros zero [] long = refl
-capped-zeros zero (b ∷ bytes) long = absurd (omega (arith, long))
-capped-zeros (suc n) [] long = absurd (omega (arith, long))
 capped-zeros (suc n) (b ∷ bytes) long = λ i. min-zero b i ∷ capped-zeros n bytes (omega (arith, long)) i
+capped-zeros _ _ long = absurd (omega (arith, long))
 
 capped-bytes : (n : ℕ) (bytes : List ℕ) → length bytes ≡ n → AreBytes bytes → capped bytes (replicate n 255) ≡ bytes
 capped-bytes n [] long are = refl
@@ -60,13 +57,10 @@ capped-bytes (suc n) (b ∷ bytes) long are =
 
 -- capping the bytes of a scalar writes its value
 scalar_capped : (scalar : Scalar) (bytes : List ℕ) → length bytes ≡ size scalar → AreBytes bytes → capped bytes (replicate (size scalar) (limit scalar)) ≡ encode scalar (decode scalar bytes)
-scalar_capped BoolScalar [] long are = absurd (omega (arith, long))
 scalar_capped BoolScalar (zero ∷ []) long are = sym (bool_again 0)
 scalar_capped BoolScalar (suc b ∷ []) long are = let one : min (suc b) 1 ≡ 1 = omega arith in ap (λ n. n ∷ []) one ∙ sym (bool_again (suc b) ∙ ap (λ n. n ∷ []) (truth_suc b))
-scalar_capped BoolScalar (b ∷ c ∷ bytes) long are = absurd (omega (arith, long))
-scalar_capped (Byte signed) bytes long are = capped-bytes 1 bytes long are ∙ sym (scalar_again (Byte signed) bytes refl long are)
-scalar_capped (Int signed width order) bytes long are = capped-bytes (size (Int signed width order)) bytes long are ∙ sym (scalar_again (Int signed width order) bytes refl long are)
-scalar_capped (Bytes n) bytes long are = capped-bytes n bytes long are ∙ sym (scalar_again (Bytes n) bytes refl long are)
+scalar_capped BoolScalar _ long are = absurd (omega (arith, long))
+scalar_capped scalar bytes long are = capped-bytes (size scalar) bytes long are ∙ sym (scalar_again scalar bytes refl long are)
 
 -- capping the bytes of an item writes its values
 item_capped : (from : ℕ) (leaves : List Leaf) (bytes : ℕ) (item : List ℕ) → AreInOrder from leaves bytes → length item ≡ bytes → AreBytes item → capped (drop from item) (limits_from from leaves bytes) ≡ encode_from from leaves (map (read_leaf item) leaves) bytes
@@ -101,10 +95,9 @@ length-limits from (leaf ∷ leaves) bytes order =
 -- capping one more byte
 pub byte_capped : (k value : ℕ) (bytes limits : List ℕ) → k < length bytes → k < length limits → value ≡ min (get_or bytes k 0) (get_or limits k 0)
     → take (suc k) (slice_set bytes k value) ++ capped (drop (suc k) (slice_set bytes k value)) (drop (suc k) limits) ≡ take k bytes ++ capped (drop k bytes) (drop k limits)
-byte_capped k value [] limits low low' is = absurd (omega (arith, low))
-byte_capped k value (b ∷ bytes) [] low low' is = absurd (omega (arith, low'))
 byte_capped zero value (b ∷ bytes) (l ∷ limits) low low' is = ap (λ n. n ∷ capped bytes limits) is
 byte_capped (suc k) value (b ∷ bytes) (l ∷ limits) low low' is = ap (λ xs. b ∷ xs) (byte_capped k value bytes limits (omega (arith, low)) (omega (arith, low')) is)
+byte_capped k value _ _ low low' is = absurd (omega (arith, low, low'))
 
 -- items one after another
 items_capped : (leaves : List Leaf) (width count : ℕ) (bytes : List ℕ) → AreInOrder 0 leaves width → length bytes ≡ count * width → AreBytes bytes → capped bytes (repeat count (limits_from 0 leaves width)) ≡ flat_map (written_item leaves width) (blocks width count bytes)
@@ -188,13 +181,12 @@ bands_capped leaves width count copies bytes bytes' order some more long are is 
 -- ---- items that are written as they are
 
 capped-most : (bytes limits : List ℕ) → All (λ limit. limit ≡ 255) limits → AreBytes bytes → capped bytes limits ≡ bytes
-capped-most [] limits most are = refl
-capped-most (b ∷ bytes) [] most are = refl
 capped-most (b ∷ bytes) (l ∷ limits) most are =
     let low : b < 256 = are 0 in
     let here : l ≡ 255 = All-head (λ limit. limit ≡ 255) l limits most in
     let same : min b l ≡ b = omega (arith, low, here) in
     λ i. same i ∷ capped-most bytes limits (All-tail (λ limit. limit ≡ 255) l limits most) (λ k. are (suc k)) i
+capped-most _ _ most are = refl
 
 pub plain_again : (leaves : List Leaf) (bytes : ℕ) (item : List ℕ) → All (λ limit. limit ≡ 255) (limits_from 0 leaves bytes) → AreInOrder 0 leaves bytes → length item ≡ bytes → AreBytes item → written_item leaves bytes item ≡ item
 plain_again leaves bytes item plain order long are = sym (item_capped 0 leaves bytes item order long are) ∙ capped-most item (limits_from 0 leaves bytes) plain are
