@@ -170,11 +170,9 @@ pub steps_more : (strides : List ℤ) (lengths : List ℕ) (k : ℕ) → length 
 steps_more strides lengths k same below = at strides lengths k same below ∙ ap (λ j. step_of (record { step = unsigned_abs (get_or strides k (pos 0)); len = get_or lengths k 0 }) ∷ map step_of (axes (drop j strides) (drop j lengths))) (sym (add-one k))
   where
     at : (strides : List ℤ) (lengths : List ℕ) (k : ℕ) → length strides ≡ length lengths → k < length lengths → map step_of (axes (drop k strides) (drop k lengths)) ≡ step_of (record { step = unsigned_abs (get_or strides k (pos 0)); len = get_or lengths k 0 }) ∷ map step_of (axes (drop (suc k) strides) (drop (suc k) lengths))
-    at [] [] k same below = absurd (omega arith)
-    at [] (n ∷ lengths) k same below = absurd (omega (arith, same))
-    at (s ∷ strides) [] k same below = absurd (omega arith)
     at (s ∷ strides) (n ∷ lengths) zero same below = refl
     at (s ∷ strides) (n ∷ lengths) (suc k) same below = at strides lengths k (omega (arith, same)) (omega (arith, below))
+    at _ _ k same below = absurd (omega (arith, same, below))
 
 pub no_axes : (strides : List ℤ) (lengths : List ℕ) (k : ℕ) → length lengths ≤ k → map step_of (axes (drop k strides) (drop k lengths)) ≡ []
 no_axes strides lengths k most = ap (λ l. map step_of (axes (drop k strides) l)) (drop_all k lengths most) ∙ none (drop k strides)

@@ -22,8 +22,6 @@ module _ (width : ℕ) (other : List ℕ) where
 
   -- an item that overlaps none of those written is unchanged
   pub kept : (place : ℕ) (to from block : List ℕ) → IsIn block place → All (IsIn block) to → All (IsIn other) from → All (λ at. width ≤ distance place at) to → item_at place width (assigned to from width other block) ≡ item_at place width block
-  kept place [] from block there in_block in_other apart = refl
-  kept place (at ∷ to) [] block there in_block in_other apart = refl
   kept place (at ∷ to) (offset ∷ from) block there in_block in_other apart =
       let here = All-head (IsIn block) at to in_block in
       let first = All-head (IsIn other) offset from in_other in
@@ -32,3 +30,4 @@ module _ (width : ℕ) (other : List ℕ) where
       let left : All (IsIn next) to = subst (λ n. All (λ o. o + width ≤ n) to) (sym same) (All-rest (IsIn block) at to (at ∷ to) refl in_block) in
       kept place to from next (subst (λ n. place + width ≤ n) (sym same) there) left (All-rest (IsIn other) offset from (offset ∷ from) refl in_other) (All-rest (λ o. width ≤ distance place o) at to (at ∷ to) refl apart)
       ∙ kept-once at offset place block here first there (All-head (λ o. width ≤ distance place o) at to apart)
+  kept place _ _ block there in_block in_other apart = refl

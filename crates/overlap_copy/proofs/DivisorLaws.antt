@@ -22,13 +22,12 @@ pub record IsParted (g beyond sum : ℕ) : Type 0 where
 pub parted : (g k : ℕ) (axes : List Axis) (index : List ℕ) → DividesFirst g axes k → IsIndex (lengths_in axes) index → IsParted g (reach_of (drop k axes)) (reached axes index)
 parted g zero axes index divides in' = record { times = 0; rest = reached axes index; is = omega (arith, mul-zero g); most = most_sum axes index in' }
 parted g (suc k) [] [] divides in' = record { times = 0; rest = 0; is = omega (arith, mul-zero g); most = omega arith }
-parted g (suc k) [] (i ∷ index) divides in' = absurd in'
-parted g (suc k) (a ∷ axes) [] divides in' = absurd in'
 parted g (suc k) (a ∷ axes) (i ∷ index) divides in' =
     let rest = parted g k axes index divides.1 in'.1 in
     let q = a.step / g in
     let own : a.step * i ≡ g * (q * i) = ap (λ n. n * i) (times_of g a.step divides.0) ∙ mul_assoc g q i in
     record { times = q * i + rest.times; rest = rest.rest; is = omega (arith, own, rest.is, mul-add g (q * i) rest.times); most = rest.most }
+parted g _ _ _ divides in' = absurd in'
 
 -- one more axis
 pub divides_more : (g h k : ℕ) (axes : List Axis) (d : Axis) → k < length axes → g ∣ h → g ∣ (get_or axes k d).step → DividesFirst h axes k → DividesFirst g axes (suc k)

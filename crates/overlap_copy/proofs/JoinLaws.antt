@@ -233,11 +233,7 @@ forward_order axes order same are = record {
   near = omega (arith, are.near, reach-sum axes, reach-sum order, sum_by-IsPermutation reach axes order same);
 }
 
--- the axes from one on, as a range of a slice
-last_part : (axes : List Axis) (from : ℕ) → take (length axes - from) (drop from axes) ≡ drop from axes
-last_part axes from = take_all (length axes - from) (drop from axes) (omega (arith, length-drop from axes))
-
 -- axes that are ordered, and then joined
 pub same_part : (axes order now : List Axis) (from : ℕ) → IsPermutation axes order → AreJoined order (drop from now) → SameSums axes (take (length now - from) (drop from now))
 same_part axes order now from order_is is =
-    subst (SameSums axes) (sym (last_part now from)) (same_trans axes order (drop from now) (same_order axes order order_is) is.same)
+    subst (SameSums axes) (sym (take_all (length now - from) (drop from now) (omega (arith, length-drop from now)))) (same_trans axes order (drop from now) (same_order axes order order_is) is.same)

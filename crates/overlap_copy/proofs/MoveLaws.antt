@@ -133,8 +133,6 @@ module _ (dst : ℕ) (dst_step : ℤ) (src : ℕ) (src_step : ℤ) (width : ℕ)
 
 pub assigned_is : (width : ℕ) (other to from block : List ℕ) → length to ≡ length from → All (λ o. o + width ≤ length block) to → All (λ o. o + width ≤ length other) from → IsNested to width → IsAssigned (length to) (λ k. get_or to k 0) (λ k. get_or from k 0) width other block (assigned to from width other block)
 assigned_is width other [] [] block even in_block in_other nested = record { len = refl; items = λ k below. absurd (omega arith); rest = λ j outside. refl }
-assigned_is width other [] (offset ∷ from) block even in_block in_other nested = absurd (omega (arith, even))
-assigned_is width other (at ∷ to) [] block even in_block in_other nested = absurd (omega (arith, even))
 assigned_is width other (at ∷ to) (offset ∷ from) block even in_block in_other nested =
     let item = item_at offset width other in
     let here = All-head (λ o. o + width ≤ length block) at to in_block in
@@ -153,3 +151,4 @@ assigned_is width other (at ∷ to) (offset ∷ from) block even in_block in_oth
     each : item_at at width (assigned to from width other (put at (item_at offset width other) block)) ≡ item_at offset width other → ((k : ℕ) → k < length to → item_at (get_or to k 0) width (assigned to from width other (put at (item_at offset width other) block)) ≡ item_at (get_or from k 0) width other) → (k : ℕ) → k < suc (length to) → item_at (get_or (at ∷ to) k 0) width (assigned to from width other (put at (item_at offset width other) block)) ≡ item_at (get_or (offset ∷ from) k 0) width other
     each first rest zero below = first
     each first rest (suc k) below = rest k (omega (arith, below))
+assigned_is width other _ _ block even in_block in_other nested = absurd (omega (arith, even))

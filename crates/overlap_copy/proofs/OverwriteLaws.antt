@@ -17,8 +17,6 @@ joined-same (o ∷ os) width block block' same =
 -- items that do not overlap those that are written are unchanged
 kept-behind : (width : ℕ) (to places from other block : List ℕ) → IsNested (to ++ places) width → All (λ o. o + width ≤ length block) (to ++ places) → All (λ o. o + width ≤ length other) from →
     joined_at places width (assigned to from width other block) ≡ joined_at places width block
-kept-behind width [] places from other block nested in_to in_from = refl
-kept-behind width (at ∷ to) places [] other block nested in_to in_from = refl
 kept-behind width (at ∷ to) places (offset ∷ from) other block nested in_to in_from =
     let ends = λ (o : ℕ). o + width ≤ length block in
     let item = item_at offset width other in
@@ -29,6 +27,7 @@ kept-behind width (at ∷ to) places (offset ∷ from) other block nested in_to 
     kept-behind width to places from other (put at item block) (nested-back (at ∷ []) (to ++ places) width nested) (subst (λ n. All (λ o. o + width ≤ n) (to ++ places)) (sym same) behind) (All-tail (λ o. o + width ≤ length other) offset from in_from)
     ∙ joined-same places width (put at item block) block (kept_items width at item places block long here (All-back ends to places behind) (λ k below.
     let far = nested.apart 0 (suc (length to + k)) (omega arith) (omega (arith, below, length-append to places)) in omega (arith, far, get_or-append-add to places k 0)))
+kept-behind width _ places _ other block nested in_to in_from = refl
 
 -- ---- the remaining places complete what all of them do
 
@@ -116,9 +115,8 @@ rest-start run n low begins =
 -- ---- one item at all places
 
 at-start : (strides : List ℤ) (index : List ℕ) → address_at (map (λ _. pos 0) strides) 0 index ≡ pos 0
-at-start [] index = refl
-at-start (step ∷ strides) [] = refl
 at-start (step ∷ strides) (k ∷ index) = ap (λ z. pos 0 +ℤ (z +ℤ dot (map (λ _. pos 0) strides) index)) (zero-*ℤ (pos k)) ∙ ap (λ z. pos 0 +ℤ z) (+ℤ_idl (dot (map (λ _. pos 0) strides) index)) ∙ at-start strides index
+at-start _ _ = refl
 
 pub start-within : (shape : List ℕ) (strides : List ℤ) → LieWithin shape (map (λ _. pos 0) strides) 0 max_bytes 1
 start-within shape strides = record {

@@ -43,11 +43,10 @@ first_of a axes low high s = at s.index s.inside s.from s.to
 -- no sum exceeds the reach
 pub most_sum : (axes : List Axis) (index : List ℕ) → IsIndex (lengths_in axes) index → reached axes index ≤ reach_of axes
 most_sum [] [] inside = omega arith
-most_sum [] (k ∷ index) inside = absurd inside
-most_sum (a ∷ axes) [] inside = absurd inside
 most_sum (a ∷ axes) (k ∷ index) inside =
     let least : k ≤ a.len - 1 = omega (arith, inside.0) in
     omega (arith, mul-le-mul_left a.step least, most_sum axes index inside.1)
+most_sum _ _ inside = absurd inside
 
 -- ---- the items of the first axis one by one
 

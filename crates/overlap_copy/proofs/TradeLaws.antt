@@ -9,10 +9,9 @@ Both = List ℕ × List ℕ
 
 pub traded-append : (to from to' from' : List ℕ) (width : ℕ) (both : Both) → length to ≡ length from → traded_at (to ++ to') (from ++ from') width both ≡ traded_at to' from' width (traded_at to from width both)
 traded-append [] [] to' from' width both even = refl
-traded-append [] (offset ∷ from) to' from' width both even = absurd (omega (arith, even))
-traded-append (at ∷ to) [] to' from' width both even = absurd (omega (arith, even))
 traded-append (at ∷ to) (offset ∷ from) to' from' width both even =
     traded-append to from to' from' width (put at (item_at offset width both.1) both.0, put offset (item_at at width both.0) both.1) (omega (arith, even))
+traded-append _ _ to' from' width both even = absurd (omega (arith, even))
 
 -- ---- at equal steps
 
@@ -63,8 +62,6 @@ kept_items width at item (o ∷ places) block long inside within apart =
 traded-apart : (width : ℕ) (to from block other : List ℕ) → IsNested to width → IsNested from width → ArePaired to from width other block →
     traded_at to from width (block, other) ≡ (assigned to from width other block, assigned from to width block other)
 traded-apart width [] [] block other nested nested' paired = refl
-traded-apart width [] (offset ∷ from) block other nested nested' paired = absurd (omega (arith, paired.count))
-traded-apart width (at ∷ to) [] block other nested nested' paired = absurd (omega (arith, paired.count))
 traded-apart width (at ∷ to) (offset ∷ from) block other nested nested' paired =
     let ends = λ (o : ℕ). o + width ≤ length block in
     let ends' = λ (o : ℕ). o + width ≤ length other in
@@ -86,6 +83,7 @@ traded-apart width (at ∷ to) (offset ∷ from) block other nested nested' pair
       count = omega (arith, paired.count);
     })
     ∙ (λ i. (with_items to (kept i) x, with_items from (kept' i) y))
+traded-apart width _ _ block other nested nested' paired = absurd (omega (arith, paired.count))
 
 pub trades-apart : {to from : List ℕ} {width : ℕ} {other block : List ℕ} {new : Both} → IsNested to width → IsNested from width → ArePaired to from width other block → Trades to from width (block, other) new → Assigns to from width other block new.0 × Assigns from to width block other new.1
 trades-apart {to} {from} {width} {other} {block} nested nested' paired trades =

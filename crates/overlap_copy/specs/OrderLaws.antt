@@ -17,9 +17,8 @@ put_all [] block = block
 put_all (p ∷ ps) block = put_all ps (put p.0 p.1 block)
 
 placed : (to : List ℕ) (items : List (List ℕ)) (block : List ℕ) → with_items to items block ≡ put_all (zip to items) block
-placed [] items block = refl
-placed (at ∷ to) [] block = refl
 placed (at ∷ to) (item ∷ items) block = placed to items (put at item block)
+placed _ _ block = refl
 
 abbrev LiesIn : ℕ → ℕ → Placed → Type 0
 LiesIn len width p = (p.0 + width ≤ len) × (length p.1 ≡ width)
@@ -149,17 +148,15 @@ with_items-reordered width to items to' items' block long nested lie same =
 -- ---- items copied from other places
 
 zip-items : (to from : List ℕ) (width : ℕ) (other : List ℕ) → zip to (items_at from width other) ≡ map (λ (p : ℕ × ℕ). (p.0, item_at p.1 width other)) (zip to from)
-zip-items [] from width other = refl
-zip-items (at ∷ to) [] width other = refl
 zip-items (at ∷ to) (offset ∷ from) width other = ap (λ l. (at, item_at offset width other) ∷ l) (zip-items to from width other)
+zip-items _ _ width other = refl
 
 zip-lie : (len width : ℕ) (to from : List ℕ) (other : List ℕ) → All (λ o. o + width ≤ len) to → All (λ o. o + width ≤ length other) from → Each (LiesIn len width) (zip to (items_at from width other))
-zip-lie len width [] from other in_to in_from = tt
-zip-lie len width (at ∷ to) [] other in_to in_from = tt
 zip-lie len width (at ∷ to) (offset ∷ from) other in_to in_from = (
   (All-head (λ o. o + width ≤ len) at to in_to, length-item_at offset width other (All-head (λ o. o + width ≤ length other) offset from in_from)),
   zip-lie len width to from other (All-tail (λ o. o + width ≤ len) at to in_to) (All-tail (λ o. o + width ≤ length other) offset from in_from),
 )
+zip-lie len width _ _ other in_to in_from = tt
 
 assigned-reordered : (width : ℕ) (to from to' from' other block : List ℕ) → IsNested to width → ArePaired to from width other block →
     IsPermutation (zip to from) (zip to' from') → assigned to' from' width other block ≡ assigned to from width other block
