@@ -146,9 +146,6 @@ in_file-c width shape offsets is = rw is (turn (is_f_contiguous width shape offs
     turn true = refl
     turn false = refl
 
-in_file-f : (width : ℕ) (shape offsets : List ℕ) → is_c_contiguous width offsets ≡ false → is_f_contiguous width shape offsets ≡ true → addresses_in_file width shape offsets ≡ fortran_order shape offsets
-in_file-f width shape offsets none is = rw (none, is) refl
-
 pub in_file-none : (width : ℕ) (shape offsets : List ℕ) → (is_c_contiguous width offsets || is_f_contiguous width shape offsets) ≡ false → addresses_in_file width shape offsets ≡ offsets
 in_file-none width shape offsets is = turn (is_c_contiguous width offsets) (is_f_contiguous width shape offsets) is
   where
@@ -189,5 +186,5 @@ together width shape offsets bytes long inside is = elim (is_c_contiguous width 
   | true ↦ λ c. from_first width bytes offsets (addresses_in_file width shape offsets) offsets (count shape) (in_file-c width shape offsets c) c long refl inside (first-within width (length bytes) offsets inside)
   | false ↦ λ c.
       let f : is_f_contiguous width shape offsets ≡ true = sym (ap (λ b. b || is_f_contiguous width shape offsets) c) ∙ is in
-      from_first width bytes offsets (addresses_in_file width shape offsets) (fortran_order shape offsets) (count shape) (in_file-f width shape offsets c f) f (length-fortran shape offsets) (first-same shape offsets long) (fortran-within shape offsets (length bytes) width long inside) (first-within width (length bytes) offsets inside)
+      from_first width bytes offsets (addresses_in_file width shape offsets) (fortran_order shape offsets) (count shape) (rw (c, f) refl) f (length-fortran shape offsets) (first-same shape offsets long) (fortran-within shape offsets (length bytes) width long inside) (first-within width (length bytes) offsets inside)
 ] refl

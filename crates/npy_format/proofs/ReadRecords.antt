@@ -88,9 +88,6 @@ field_and_more levels leaves from at bytes done name type descr rest low small l
     reads_padding (record_in levels) levels leaves from (at - from) done entries _ (omega (arith, gap, small))
     (ap (λ n. fields_in (record_in levels) (packed levels leaves n done) entries) gap ∙ one ∙ more ∙ (λ i. Ok (packed levels (sum i) bytes (append_assoc done (field ∷ []) (fields_of rest) i))))
 
-scalar_read : (scalar : Scalar) (within : List Literal → Result Structure Refusal) → 1 ≤ size scalar → size scalar ≤ 65536 → type_in within (Plain (Text (spelling scalar))) ≡ Ok (ScalarDescr scalar)
-scalar_read scalar within some small = after_ok _ _ _ (reads_spelling scalar some small)
-
 record_read : (levels leaves width : ℕ) (inner : Fields) → width ≤ 65536 → 1 ≤ length (fields_of inner) → fields_in (record_in levels) (packed levels leaves 0 []) (entry_values 0 inner width) ≡ Ok (packed levels (leaves + leaf_count inner) width (fields_of inner))
     → record_in (suc levels) leaves (entry_values 0 inner width) ≡ Ok (record { size = width; fields = inner })
 unfolding record_in closed_record
@@ -114,7 +111,7 @@ fields_read (scalar_field name at scalar rest) levels leaves from bytes done may
     let legal = and_parts (is_legal_name name) (list_all is_legal_name (names_of rest)) may.legal in
     let later = behind_first levels leaves at bytes done name descr rest may.order.2 may.small (omega (arith, may.few)) legal.1 may.distinct may.within (omega (arith, may.shallow)) (omega (arith, may.counted)) in
     field_and_more levels leaves from at bytes done name (Plain (Text (spelling scalar))) descr rest may.order.0 (omega (arith, ends, may.small)) legal.0 (omega (arith, may.few)) may.distinct (omega (arith, may.counted))
-    (scalar_read scalar (record_in levels leaves) may.order.1 (omega (arith, ends, may.small)))
+    (after_ok _ _ _ (reads_spelling scalar may.order.1 (omega (arith, ends, may.small))))
     (fields_read rest levels (leaves + 1) (at + size scalar) bytes (done ++ field_of name at descr ∷ []) later)
 fields_read (record_field name at width inner rest) zero leaves from bytes done may = absurd (omega (arith, may.shallow, some_depth inner))
 fields_read (record_field name at width inner rest) (suc levels) leaves from bytes done may =

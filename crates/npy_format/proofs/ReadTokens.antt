@@ -77,9 +77,6 @@ digits_of n small = of (decimal n) refl
             let high' : 48 < d = subst (λ l. 48 < get_or l 0 0) is high in
             ap is_integer is ∙ rw (ne_eqb d 48 (λ same. omega (arith, same, high'))) refl
 
-no_quote : (d : ℕ) → is_ascii_digit d ≡ true → is_quote d ≡ false
-no_quote d is = grind (arith, nat_tests)
-
 no_space : (d : ℕ) → is_ascii_digit d ≡ true → is_space d ≡ false
 no_space d is = grind (arith, nat_tests)
 
@@ -87,7 +84,7 @@ chosen : (q t : Bool) (a b c : Token × List ℕ) → q ≡ false → t ≡ true
 chosen q t a b c first second = rw (first, second) refl
 
 token_digit : (d : ℕ) (rest : List ℕ) → is_ascii_digit d ≡ true → token_from d rest ≡ integer_token (d ∷ rest)
-token_digit d rest is = chosen (is_quote d) (is_ascii_digit d) (text_token d rest) (integer_token (d ∷ rest)) (if is_ascii_alphabetic d then word_token (d ∷ rest) else (Symbol d, rest)) (no_quote d is) is
+token_digit d rest is = chosen (is_quote d) (is_ascii_digit d) (text_token d rest) (integer_token (d ∷ rest)) (if is_ascii_alphabetic d then word_token (d ∷ rest) else (Symbol d, rest)) (grind (arith, nat_tests)) is
 
 -- a number before a byte that is neither a digit nor an `L`
 pub scan_number : (n b : ℕ) (rest : List ℕ) (toks : List Token) → n ≤ max_items → is_ascii_digit b ≡ false → nat_eq b 76 ≡ false → Scans (b ∷ rest) toks → Scans (decimal n ++ (b ∷ rest)) (Integer n ∷ toks)

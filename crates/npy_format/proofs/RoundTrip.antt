@@ -12,16 +12,10 @@ use Rattle.npy_format.proofs.TextLengths.{short_text}
 -- ---- one item
 
 value_again : (scalar : Scalar) (bytes : List ℕ) → length bytes ≡ size scalar → AreBytes bytes → decode scalar (encode scalar (decode scalar bytes)) ≡ decode scalar bytes
-value_again BoolScalar bytes long are = bool_value (decode BoolScalar bytes) refl
-  where
-    bool_value : (value : LeafValue) → decode BoolScalar bytes ≡ value → decode BoolScalar (encode BoolScalar value) ≡ value
-    bool_value value is = subst (λ v. decode BoolScalar (encode BoolScalar v) ≡ v) is again
-      where
-        again : decode BoolScalar (encode BoolScalar (decode BoolScalar bytes)) ≡ decode BoolScalar bytes
-        again =
-            let n = get_or bytes 0 0 + 256 * 0 in
-            let same : truth (truth n) + 256 * 0 ≡ truth (truth n) = omega arith in
-            ap (λ m. number (pos (truth m))) same ∙ ap (λ m. number (pos m)) (ap truth (truth-twice n) ∙ truth-twice n)
+value_again BoolScalar bytes long are =
+    let n = get_or bytes 0 0 + 256 * 0 in
+    let same : truth (truth n) + 256 * 0 ≡ truth (truth n) = omega arith in
+    ap (λ m. number (pos (truth m))) same ∙ ap (λ m. number (pos m)) (ap truth (truth-twice n) ∙ truth-twice n)
 value_again scalar bytes long are = ap (decode scalar) (scalar_again scalar bytes refl long are)
 
 leaves_again : (front : List ℕ) (from bytes : ℕ) (leaves : List Leaf) (item : List ℕ) → length front ≡ from → AreInOrder from leaves bytes → length item ≡ bytes → AreBytes item

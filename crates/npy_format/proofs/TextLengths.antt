@@ -1,5 +1,5 @@
 -- The maximum length of the text of a header.
-use Rattle.std.proofs.Common.{◌≡◌, ℕ, zero, suc, ◌+◌, ◌-◌, ◌*◌, ◌≤◌, ◌&&◌, Bool, true, false, All, List, [], ◌∷◌, ◌++◌, length, codes, decimal, arith, length-append, suc-mul, nat_le}
+use Rattle.std.proofs.Common.{◌≡◌, ℕ, zero, suc, ◌+◌, ◌-◌, ◌*◌, ◌≤◌, ◌&&◌, Bool, true, false, All, List, [], ◌∷◌, ◌++◌, length, codes, decimal, arith, length-append, mul-one, suc-mul, nat_le}
 use Rattle.npy_format.proofs.Words.{mul-le-mul_left, list_all, flat_map, leb-true, and_parts, length-decimal-le, All-head, All-tail, mul-add, Little, Big, Scalar, Byte, Int, Bytes, Descr, size, Fields, no_more, scalar_field, record_field, total, is_field_name_byte, is_legal_name, InOrder, AreNamedWithin, names_of, depth, leaf_count, InOrder-within, some_depth, some_leaves, spelling, max_items, IsShape, shape_text, BoolScalar, ScalarDescr, RecordDescr, IsSound, quoted, opened_entry, entry, gap, separated, in_brackets, entries, written_descr, written_truth, written_text}
 
 short_decimal : (n : ℕ) → n ≤ 65536 → length (decimal n) ≤ 5
@@ -65,10 +65,7 @@ few_fields : (fields : Fields) (levels : ℕ) → depth fields ≤ levels → Ar
 few_fields fields zero deep within = absurd (omega (arith, deep, some_depth fields))
 few_fields no_more (suc levels) deep within = omega arith
 few_fields (scalar_field name at scalar rest) (suc levels) deep within =
-    omega (arith, few_fields rest (suc levels) deep within, mul-add (suc levels) 1 (leaf_count rest), one (suc levels))
-  where
-    one : (n : ℕ) → n * 1 ≡ n
-    one n = omega arith
+    omega (arith, few_fields rest (suc levels) deep within, mul-add (suc levels) 1 (leaf_count rest), mul-one (suc levels))
 few_fields (record_field name at width inner rest) (suc levels) deep within =
     omega (arith, few_fields inner levels (omega (arith, deep)) within.1, few_fields rest (suc levels) (omega (arith, deep)) within.2, some_leaves inner within.0.some within.1, mul-add (suc levels) (leaf_count inner) (leaf_count rest), suc-mul levels (leaf_count inner))
 
