@@ -140,19 +140,15 @@ fortran-first shape offsets some =
 -- ---- all items
 
 in_file-c : (width : ℕ) (shape offsets : List ℕ) → is_c_contiguous width offsets ≡ true → addresses_in_file width shape offsets ≡ offsets
-in_file-c width shape offsets is = rw is (turn (is_f_contiguous width shape offsets))
-  where
-    turn : (f : Bool) → (if f && false then fortran_order shape offsets else offsets) ≡ offsets
-    turn true = refl
-    turn false = refl
+in_file-c width shape offsets is =
+    rw is (elim (is_f_contiguous width shape offsets) as (λ f. (if f && false then fortran_order shape offsets else offsets) ≡ offsets) [ true ↦ refl | false ↦ refl ])
 
 pub in_file-none : (width : ℕ) (shape offsets : List ℕ) → (is_c_contiguous width offsets || is_f_contiguous width shape offsets) ≡ false → addresses_in_file width shape offsets ≡ offsets
 in_file-none width shape offsets is = turn (is_c_contiguous width offsets) (is_f_contiguous width shape offsets) is
   where
     turn : (c f : Bool) → (c || f) ≡ false → (if f && not c then fortran_order shape offsets else offsets) ≡ offsets
-    turn true f is = absurd (true≢false is)
-    turn false true is = absurd (true≢false is)
     turn false false is = refl
+    turn _ _ is = absurd (true≢false is)
 
 -- the items of a file are one stretch of bytes, from the first address on
 pub record AreTogether (width : ℕ) (bytes offsets in_file : List ℕ) (n : ℕ) : Type 0 where

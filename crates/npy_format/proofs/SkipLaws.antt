@@ -80,12 +80,9 @@ module _ (value : List Token → Read Literal) (toks : List Token) where
   unfolding pair_in
   pair_skipped = key (value toks)
     where
-      under : (k : Literal × List Token) (r : Read Literal) → behind {A = Pair} (r >>= λ u. Ok (record { key = k.0; value = u.0 }, u.1)) ≡ behind r
-      under k r = behind_other r _
-
       colon : (k : Literal × List Token) (o : Option (List Token)) → behind {A = Pair} (ok_or o BadHeader >>= λ rest. value rest >>= λ u. Ok (record { key = k.0; value = u.0 }, u.1)) ≡ (ok_or o BadHeader >>= λ rest. behind (value rest))
       colon k None = refl
-      colon k (Some rest) = under k (value rest)
+      colon k (Some rest) = behind_other (value rest) _
 
       key : (r : Read Literal) → behind {A = Pair} (r >>= λ k. ok_or (symbol_token_at 58 k.1) BadHeader >>= λ rest. value rest >>= λ u. Ok (record { key = k.0; value = u.0 }, u.1)) ≡ (behind r >>= (λ rest. ok_or (symbol_token_at 58 rest) BadHeader) >>= λ rest. behind (value rest))
       key (Err e) = refl
