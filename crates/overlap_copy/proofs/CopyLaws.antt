@@ -1,5 +1,5 @@
 -- Copies of items, and what they leave unchanged.
-use Rattle.std.proofs.Common.{◌≡◌, ◌+◌, ◌≤◌, ◌⊎◌, inl, inr, ℕ, List, [], ◌∷◌, length, All, refl, sym, subst, ◌∙◌, arith}
+use Rattle.std.proofs.Common.{◌≡◌, ◌+◌, ◌≤◌, ◌⊎◌, inl, inr, ℕ, List, ◌∷◌, length, All, refl, sym, subst, ◌∙◌, arith}
 use Rattle.overlap_copy.proofs.Words.{cases_lt, All-rest, All-head, put, item_at, length-item_at, length-put, item_at-put_apart, distance, assigned}
 
 module _ (width : ℕ) (other : List ℕ) where
