@@ -1,6 +1,6 @@
 -- Reading a record from the entries that are written for it.
 use Rattle.std.proofs.Common.{◌≡◌, ℕ, zero, suc, ◌+◌, ◌-◌, ◌^◌, ◌<◌, ◌≤◌, true, false, List, [], ◌∷◌, ◌++◌, map, length, codes, decimal, Result, Ok, refl, sym, ap, subst, ◌∙◌, arith, append_assoc, length-append, add-zero, nat_eq}
-use Rattle.npy_format.proofs.Words.{IsDistinct, list_all, bytes_eq, le-leb, ne_eqb, true≢false, and_parts, decimal_nonempty, append-nil, Refusal, Scalar, Field, Descr, ◌>>=◌, size, Fields, no_more, scalar_field, record_field, Structure, is_legal_name, AreNamedWithin, InOrder, fields_of, names_of, depth, leaf_count, listed-fields_of, InOrder-within, some_depth, item_size, leaves_of, length-leaves_from, spelling, Partial, is_taken, widened, closed_record, packed, field_of, grown, name_ok, added_ok, names, not_taken, digits-decimal, value_of-decimal, reads_spelling, ScalarDescr, RecordDescr, Square, Text, Literal, Plain, Row, all_listed_values, pad_kind, type_in, field_in, entry_in, fields_in, record_in, descr_in, Reader, IsSound, written_descr, entries}
+use Rattle.npy_format.proofs.Words.{IsDistinct, list_all, bytes_eq, le-leb, ne_eqb, true≢false, and_parts, decimal_nonempty, append-nil, Refusal, Field, Descr, ◌>>=◌, size, Fields, no_more, scalar_field, record_field, Structure, is_legal_name, AreNamedWithin, InOrder, fields_of, names_of, depth, leaf_count, listed-fields_of, InOrder-within, some_depth, item_size, leaves_of, length-leaves_from, spelling, Partial, is_taken, widened, closed_record, packed, field_of, grown, name_ok, added_ok, names, not_taken, digits-decimal, value_of-decimal, reads_spelling, ScalarDescr, RecordDescr, Square, Text, Literal, Plain, Row, all_listed_values, pad_kind, type_in, field_in, entry_in, fields_in, record_in, descr_in, Reader, IsSound, written_descr, entries}
 use Rattle.npy_format.proofs.ReadValues.{IsValue, entry_literal, gap_values, entry_values, quoted_value, list_value, entries_are, plain_spelling}
 use Rattle.npy_format.proofs.ValueLaws.{literals_of_listed}
 

@@ -1,6 +1,6 @@
 -- Values that are written, and read back from their tokens.
 use Rattle.std.proofs.Common.{◌≡◌, ℕ, zero, suc, ◌+◌, ◌-◌, ◌*◌, ◌^◌, ◌<◌, ◌≤◌, ◌&&◌, nat_le, Bool, true, false, List, [], ◌∷◌, ◌++◌, length, None, Ok, refl, sym, ap, subst, arith, codes, decimal, append_assoc}
-use Rattle.npy_format.proofs.Words.{list_all, is_ascii_digit, nat_tests, and_parts, Little, Big, Scalar, Byte, Int, Bytes, size, width_size, Fields, no_more, scalar_field, record_field, is_field_name_byte, is_legal_name, InOrder, AreNamedWithin, names_of, depth, InOrder-within, some_depth, spelling, ◌>>=◌, digits-decimal, BoolScalar, Token, is_plain_byte, Round, Square, Text, Literal, Plain, Row, all_listed_values, symbol_token_at, entries_in, tuple_in, list_in, literal_in, quoted, entry, gap, separated, in_brackets, entries}
+use Rattle.npy_format.proofs.Words.{list_all, is_ascii_digit, nat_tests, and_parts, Little, Scalar, Byte, Int, size, width_size, Fields, no_more, scalar_field, record_field, is_field_name_byte, is_legal_name, InOrder, AreNamedWithin, names_of, depth, InOrder-within, some_depth, spelling, ◌>>=◌, digits-decimal, Token, is_plain_byte, Round, Square, Text, Literal, Plain, Row, all_listed_values, symbol_token_at, entries_in, tuple_in, list_in, literal_in, quoted, entry, gap, separated, in_brackets, entries}
 use Rattle.npy_format.specs.Tokens as token
 use Rattle.npy_format.proofs.ReadTokens.{Scans, scan_token, scan_space, scan_quoted}
 

@@ -1,6 +1,6 @@
 -- The entries of a list, one after another.
-use Rattle.std.proofs.Common.{◌≡◌, ◌⊎◌, ◌<◌, ◌+◌, ◌-◌, ℕ, suc, Bool, true, false, List, [], ◌∷◌, Option, Some, None, Result, Ok, Err, refl, ap, ⊎_elim, inl, inr, ◌∙◌, arith, if◌then◌else◌}
-use Rattle.npy_format.proofs.Words.{Refusal, DescriptorLeftOut, OutOfMemory, ◌>>=◌, Gives, Answers, Descr, Structure, is_legal_name, is_empty, Partial, max_depth, empty, checked_name, added, closed_record, RecordDescr, Token, Literal, Plain, Row, all_listed_values, value_literals, Text, Integer, Truth, Nothing, Dictionary, Round, Square, symbol_token_at, Reader, pad_in, type_in, field_in, named_in, entry_in, fields_in, record_in, descr_in, behind_entry, HasValues, Stands, value_in, name_and_type, entry_parts}
+use Rattle.std.proofs.Common.{◌≡◌, ◌⊎◌, ◌<◌, ◌+◌, ◌-◌, ℕ, suc, Bool, true, false, List, ◌∷◌, Option, Some, None, Result, Ok, Err, refl, ap, ⊎_elim, inl, inr, ◌∙◌, arith, if◌then◌else◌}
+use Rattle.npy_format.proofs.Words.{Refusal, DescriptorLeftOut, OutOfMemory, ◌>>=◌, Gives, Answers, Descr, Structure, is_legal_name, is_empty, Partial, max_depth, empty, checked_name, added, closed_record, RecordDescr, Token, Literal, Plain, Row, all_listed_values, value_literals, Text, Round, Square, symbol_token_at, Reader, pad_in, type_in, field_in, named_in, entry_in, fields_in, record_in, descr_in, behind_entry, HasValues, Stands, value_in, name_and_type, entry_parts}
 use Rattle.npy_format.proofs.ValueLaws.{literals_of_listed}
 use Rattle.npy_format.proofs.PlaceLaws.{stand_closed, stand_open}
 use Rattle.npy_format.proofs.StandLaws.{next_stands, is_read}

@@ -1,6 +1,6 @@
 -- The maximum length of the text of a header.
 use Rattle.std.proofs.Common.{◌≡◌, ℕ, zero, suc, ◌+◌, ◌-◌, ◌*◌, ◌≤◌, ◌&&◌, Bool, true, false, All, List, [], ◌∷◌, ◌++◌, length, codes, decimal, arith, length-append, mul-one, suc-mul, nat_le}
-use Rattle.npy_format.proofs.Words.{mul-le-mul_left, list_all, flat_map, leb-true, and_parts, length-decimal-le, All-head, All-tail, mul-add, Little, Big, Scalar, Byte, Int, Bytes, Descr, size, Fields, no_more, scalar_field, record_field, total, is_field_name_byte, is_legal_name, InOrder, AreNamedWithin, names_of, depth, leaf_count, InOrder-within, some_depth, some_leaves, spelling, max_items, IsShape, shape_text, BoolScalar, ScalarDescr, RecordDescr, IsSound, quoted, opened_entry, entry, gap, separated, in_brackets, entries, written_descr, written_truth, written_text}
+use Rattle.npy_format.proofs.Words.{mul-le-mul_left, list_all, flat_map, leb-true, and_parts, length-decimal-le, All-head, All-tail, mul-add, Little, Scalar, Byte, Int, Descr, size, Fields, no_more, scalar_field, record_field, total, is_field_name_byte, is_legal_name, InOrder, AreNamedWithin, names_of, depth, leaf_count, InOrder-within, some_depth, some_leaves, spelling, max_items, IsShape, shape_text, ScalarDescr, RecordDescr, IsSound, quoted, opened_entry, entry, gap, separated, in_brackets, entries, written_descr, written_truth, written_text}
 
 short_decimal : (n : ℕ) → n ≤ 65536 → length (decimal n) ≤ 5
 short_decimal n small = length-decimal-le 5 n (omega arith) (omega (arith, small)) (omega (arith, small))

@@ -1,6 +1,6 @@
 -- Writing items over their own bytes.
 use Rattle.std.proofs.Common.{◌≡◌, ℕ, zero, suc, ◌+◌, ◌-◌, ◌*◌, ◌<◌, ◌≤◌, min, All, inl, inr, List, [], ◌∷◌, ◌++◌, map, length, get_or, take, drop, replicate, slice_set, refl, sym, ap, subst, ◌∙◌, arith, append_assoc, length-append, length-take, length-drop, zero-mul, suc-mul, mul-one}
-use Rattle.npy_format.proofs.Words.{append-nil, flat_map, repeat, take-append_seam, drop-append_seam, mul-le-mul_left, min-zero, cases_lt, drop_all, take-append-drop, drop-drop, length-replicate, item_at, put, front_length, Leaf, Scalar, Byte, Int, Bytes, size, decode, encode, truth_suc, AreInOrder, encode_from, AreInOrder-within, blocks, AreBytes, bytes-drop, bytes-take, length-encode, BoolScalar, read_leaf, written_item, limit, limits_from, capped, All-head, All-tail}
+use Rattle.npy_format.proofs.Words.{append-nil, flat_map, repeat, take-append_seam, drop-append_seam, mul-le-mul_left, min-zero, cases_lt, drop_all, take-append-drop, drop-drop, length-replicate, item_at, put, front_length, Leaf, Scalar, size, decode, encode, truth_suc, AreInOrder, encode_from, AreInOrder-within, blocks, AreBytes, bytes-drop, bytes-take, length-encode, BoolScalar, read_leaf, written_item, limit, limits_from, capped, All-head, All-tail}
 use Rattle.npy_format.proofs.ScalarBytes.{scalar_again, bool_again}
 
 -- ---- bytes that are put in place
