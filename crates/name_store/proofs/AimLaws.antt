@@ -1,21 +1,15 @@
 -- What a valid write to a name's array means for the buffer with its number.
-use Rattle.std.proofs.Common.{◌≡◌, ◌+◌, ◌*◌, ◌<◌, ◌≤◌, ℕ, List, [], ◌∷◌, length, map, refl, sym, ap, subst, ◌∙◌, Option, Some, None, Ok, All, false, arith}
+use Rattle.std.proofs.Common.{◌≡◌, ◌+◌, ◌≤◌, ℕ, List, length, map, refl, sym, ap, subst, ◌∙◌, Option, Some, None, Ok, All, false, arith}
 use Rattle.name_store.proofs.Words.{AllByRecursion, length-set, All-from_recursion, Descr, item_size, decode_item, LeafValue, Layout, offsets, Fits, IsNested, offsets_of, items_at, State, Array, find_array, descr_of, written, AnswersWrite, Holds, start_at, IsAim, Supplies, MayWrite, LeadsTo, target_offsets, named_array, present, Entry, Home, Slot, Source, One, Block, Target, View, Plan, IsHome, AreItems, CanPut, CanWrite, MayPut, Puts, parts_of, with_source, without_slot}
 use Rattle.name_store.specs.declared.write.Source.TheVariants.{Buffer}
-use Rattle.name_store.proofs.BlockLaws.{item-inside}
 use Rattle.name_store.proofs.PartLaws.{part-within}
 use Rattle.name_store.proofs.RewriteLaws.{lender-is, parts-whole}
+use Rattle.name_store.proofs.ShowLaws.{inside-places}
 use Rattle.name_store.proofs.SlotLaws.{slot_at-within}
 use Rattle.name_store.proofs.SourceLaws.{map-replicated, alike-items}
 use Rattle.name_store.proofs.ViewLaws.{view-slot, view-fits, view-reads}
 use Rattle.name_store.proofs.WriteLaws.{home-some, size-is, home-fits, within, spread, written-state}
 use Rattle.name_store.proofs.PastLaws.{Slots}
-
--- the parts of n items lie within the bytes of these items
-parts-within : (item start width n : ℕ) (places : List ℕ) → start + width ≤ item → AllByRecursion (λ place. place < n) places → AllByRecursion (λ offset. offset + width ≤ n * item) (offsets_of item start places)
-parts-within item start width n [] inside all = tt
-parts-within item start width n (place ∷ places) inside all =
-    (omega (arith, inside, item-inside item n place all.0), parts-within item start width n places inside all.1)
 
 module _ (es : List (List ℕ × Entry)) (slots : Slots) (name : List ℕ) (number width : ℕ) (home : IsHome es slots name number width) where
   abbrev state : State
@@ -39,11 +33,9 @@ module _ (es : List (List ℕ × Entry)) (slots : Slots) (name : List ℕ) (numb
     planned target leads =
         let e = home.entry in
         let small : start_at s.descr e.path + width ≤ item_size s.descr = subst (λ n. start_at s.descr e.path + n ≤ item_size s.descr) (sym home.width_is) (part-within s.descr s.is_whole.legal e.path home.lies.laid.part) in
-        let each : AllByRecursion (λ offset. offset + width ≤ s.items * item_size s.descr) (offsets_of (item_size s.descr) (start_at s.descr e.path) places) =
-        parts-within (item_size s.descr) (start_at s.descr e.path) width s.items places small (within es slots name number width home array leads.found places leads.among) in
         subst (All (λ offset. offset + width ≤ length s.block)) (sym (spread es slots name number width home array leads.found (target_offsets target) places leads.offsets_are))
         (All-from_recursion (λ offset. offset + width ≤ length s.block) (offsets_of (item_size s.descr) (start_at s.descr e.path) places)
-        (subst (λ n. AllByRecursion (λ offset. offset + width ≤ n) (offsets_of (item_size s.descr) (start_at s.descr e.path) places)) (sym s.is_whole.whole) each))
+        (inside-places (item_size s.descr) (start_at s.descr e.path) width s.items (length s.block) places (within es slots name number width home array leads.found places leads.among) (sym s.is_whole.whole) small))
 
     may-put : (target : Target) → LeadsTo state name target array places → MayWrite state array target → MayPut target (length s.block) width
     may-put (View layout) leads may = (fits layout leads.found may, subst (IsNested (offsets layout)) (size-is es slots name number width home array leads.found) may.1)

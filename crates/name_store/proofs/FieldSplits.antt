@@ -148,11 +148,10 @@ begins-after (record_field name at width inner rest) zero from bytes low h = h.0
 begins-after (record_field name at width inner rest) (suc k) from bytes low h = omega (arith, h.0, begins-after rest k (at + width) bytes (omega (arith, low)) h.3)
 
 one-before : (fields : Fields) (j k from bytes : ℕ) → j < k → k < length (fields_of fields) → InOrder from fields bytes → (at_number fields j).at + item_size (at_number fields j).descr ≤ (at_number fields k).at
-one-before no_more j k from bytes less low h = absurd (omega (arith, low))
-one-before (scalar_field name at scalar rest) j zero from bytes less low h = absurd (omega (arith, less))
+one-before fields j zero from bytes less low h = absurd (omega (arith, less))
+one-before no_more j (suc k) from bytes less low h = absurd (omega (arith, low))
 one-before (scalar_field name at scalar rest) zero (suc k) from bytes less low h = begins-after rest k (at + size scalar) bytes (omega (arith, low)) h.2
 one-before (scalar_field name at scalar rest) (suc j) (suc k) from bytes less low h = one-before rest j k (at + size scalar) bytes (omega (arith, less)) (omega (arith, low)) h.2
-one-before (record_field name at width inner rest) j zero from bytes less low h = absurd (omega (arith, less))
 one-before (record_field name at width inner rest) zero (suc k) from bytes less low h = begins-after rest k (at + width) bytes (omega (arith, low)) h.3
 one-before (record_field name at width inner rest) (suc j) (suc k) from bytes less low h = one-before rest j k (at + width) bytes (omega (arith, less)) (omega (arith, low)) h.3
 

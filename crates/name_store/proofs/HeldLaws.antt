@@ -1,16 +1,11 @@
 -- Slots after one of them is set: their contents and their users.
-use Rattle.std.proofs.Common.{◌≡◌, ◌+◌, ◌<◌, ◌≤◌, ℕ, Bool, true, false, List, length, refl, sym, ap, subst, ◌∙◌, cond, Option, Some, None, is_some, nat_eq, nat_lt, slice_set, arith}
-use Rattle.name_store.proofs.Words.{option_map, nat_eq_equiv, eqb-true, ne_eqb, lt-ltb, ltb-true, ltb-false, one_at, users_of, users_at, slot_at, Slot, IsLowest, stand}
-use Rattle.name_store.proofs.SlotLaws.{slot_at-set, slot_at-past, slot_at-within}
+use Rattle.std.proofs.Common.{inl, inr, ◌≡◌, ◌+◌, ◌<◌, ◌≤◌, ℕ, Bool, true, false, List, length, refl, sym, ap, subst, ◌∙◌, cond, Option, Some, None, is_some, nat_eq, nat_lt, slice_set, arith}
+use Rattle.name_store.proofs.Words.{cases_lt, option_map, nat_eq_equiv, eqb-true, ne_eqb, lt-ltb, one_at, users_of, users_at, slot_at, Slot, IsLowest, stand}
+use Rattle.name_store.proofs.Needs.{there-count}
+use Rattle.name_store.proofs.SlotLaws.{occupied-within, slot_at-set, slot_at-past}
 
-one-when : (t : Bool) (q n : ℕ) → nat_eq q n ≡ t → one_at q n ≡ cond t 1 0
+pub one-when : (t : Bool) (q n : ℕ) → nat_eq q n ≡ t → one_at q n ≡ cond t 1 0
 one-when t q n is = let flipped : nat_eq n q ≡ t = (nat_eq_equiv).symm n q ∙ is in λ i. cond (flipped i) 1 0
-
-pub one-same : (q n : ℕ) → nat_eq q n ≡ true → one_at q n ≡ 1
-one-same = one-when true
-
-pub one-apart : (q n : ℕ) → nat_eq q n ≡ false → one_at q n ≡ 0
-one-apart = one-when false
 
 -- a property that holds for the slot that is set, and for all others
 pub set-case : (P : Option Slot → Option Slot → ℕ → Type 0) (slots : List (Option Slot)) (n : ℕ) (cell : Option Slot) → n < length slots → P cell (slot_at slots n) 1 → ((o : Option Slot) → P o o 0) →
@@ -18,26 +13,18 @@ pub set-case : (P : Option Slot → Option Slot → ℕ → Type 0) (slots : Lis
 set-case P slots n cell inside here there q =
     elim (nat_eq q n) as (λ t. nat_eq q n ≡ t → slot_at (slice_set slots n cell) q ≡ cond t cell (slot_at slots q) → P (slot_at (slice_set slots n cell) q) (slot_at slots q) (one_at q n)) [
       | true ↦ λ same is.
-          subst (λ k. P (slot_at (slice_set slots n cell) q) (slot_at slots q) k) (sym (one-same q n same))
+          subst (λ k. P (slot_at (slice_set slots n cell) q) (slot_at slots q) k) (sym (one-when true q n same))
           (subst (λ o. P o (slot_at slots q) 1) (sym is) (subst (λ m. P cell (slot_at slots m) 1) (sym (eqb-true q n same)) here))
       | false ↦ λ other is.
-          subst (λ k. P (slot_at (slice_set slots n cell) q) (slot_at slots q) k) (sym (one-apart q n other))
+          subst (λ k. P (slot_at (slice_set slots n cell) q) (slot_at slots q) k) (sym (one-when false q n other))
           (subst (λ o. P o (slot_at slots q) 0) (sym is) (there (slot_at slots q)))
     ] refl (slot_at-set slots n cell q inside)
 
-pub used-within : (slots : List (Option Slot)) (n : ℕ) → 1 ≤ users_at slots n → n < length slots
-used-within slots n used = by (slot_at slots n) refl used
-  where
-    by : (o : Option Slot) → slot_at slots n ≡ o → 1 ≤ users_of o → n < length slots
-    by None is none = absurd (omega arith)
-    by (Some s) is some = slot_at-within slots n s is
-
 pub used-some : (slots : List (Option Slot)) (n : ℕ) → 1 ≤ users_at slots n → is_some (slot_at slots n) ≡ true
-used-some slots n used = by (slot_at slots n) used
-  where
-    by : (o : Option Slot) → 1 ≤ users_of o → is_some o ≡ true
-    by None is = absurd (omega arith)
-    by (Some s) is = refl
+used-some slots n used = there-count (slot_at slots n) ∙ lt-ltb 0 (users_at slots n) (omega (arith, used))
+
+pub used-within : (slots : List (Option Slot)) (n : ℕ) → 1 ≤ users_at slots n → n < length slots
+used-within slots n used = occupied-within slots n (used-some slots n used)
 
 -- every occupied slot has a user
 pub held-stand : (o : Option Slot) → option_map stand o ≡ cond (nat_lt 0 (users_of o)) (option_map stand o) None
@@ -61,14 +48,10 @@ module _ (slots : List (Option Slot)) (n : ℕ) (was now : Slot) (inside : n < l
 -- Slots below `lowest`
 
 pub lowest-within : (slots : List (Option Slot)) (low : ℕ) → IsLowest slots low → low ≤ length slots
-lowest-within slots low h = by (nat_lt (length slots) low) refl
-  where
-    by : (t : Bool) → nat_lt (length slots) low ≡ t → low ≤ length slots
-    by true less = let no : true ≡ false = sym (h.taken (length slots) (ltb-true (length slots) low less)) ∙ ap is_some (slot_at-past slots (length slots) (omega arith)) in absurd (true-not no)
-      where
-        true-not : true ≡ false → ⊥
-        true-not e = cc
-    by false past = ltb-false (length slots) low past
+lowest-within slots low h = elim (cases_lt (length slots) low) [
+  | inl less ↦ let no : true ≡ false = sym (h.taken (length slots) less) ∙ ap is_some (slot_at-past slots (length slots) (omega arith)) in absurd cc
+  | inr past ↦ past
+]
 
 -- every slot below `low` is still occupied after a slot is set to a buffer
 pub lowest-lent : (slots : List (Option Slot)) (low n : ℕ) (now : Slot) → n < length slots → IsLowest slots low → IsLowest (slice_set slots n (Some now)) low
@@ -82,7 +65,3 @@ lowest-emptied slots low n after inside below apart h = record {
 -- the same if the numbers of users are unchanged
 pub lowest-same : (slots after : List (Option Slot)) (low : ℕ) → ((q : ℕ) → users_at after q ≡ users_at slots q) → IsLowest slots low → IsLowest after low
 lowest-same slots after low same h = record { taken = λ q less. there-count (slot_at after q) ∙ ap (nat_lt 0) (same q) ∙ sym (there-count (slot_at slots q)) ∙ h.taken q less }
-  where
-    there-count : (o : Option Slot) → is_some o ≡ nat_lt 0 (users_of o)
-    there-count None = refl
-    there-count (Some s) = sym (lt-ltb 0 s.users s.is_used)

@@ -1,7 +1,7 @@
 -- Keeping a change.
 use Rattle.std.proofs.Common.{◌≡◌, ◌+◌, ◌-◌, ◌≤◌, ℕ, true, false, List, [], ◌∷◌, ◌++◌, length, drop, map, min, refl, sym, ap, subst, ◌∙◌, cond, Some, None, nat_lt, slice_get, arith, length-drop, length-append}
-use Rattle.name_store.proofs.Words.{list_any, option_map, ltb-false, length-map, map-append, drop-map, buffer, keep_last, Ring, is_in_use, keeping, Holds, IsSound, LiesAt, IsUndoable, AreUndoable, one_at, users_at, users_in, held_number, found_at, all_pins, Names, names_before, past_buffers, kept_states, patch_size, named_array, slot_at, state_of, Change, Entry, stand}
-use Rattle.name_store.proofs.NameLaws.{all-both, all-in_use, in_front}
+use Rattle.name_store.proofs.Words.{or_left, list_any, option_map, ltb-false, length-map, map-append, drop-map, buffer, keep_last, Ring, is_in_use, keeping, Holds, IsSound, LiesAt, IsUndoable, AreUndoable, one_at, users_at, users_in, held_number, found_at, all_pins, Names, names_before, past_buffers, kept_states, patch_size, named_array, slot_at, state_of, Change, Entry, stand}
+use Rattle.name_store.proofs.NameLaws.{all-both, all-in_use}
 use Rattle.name_store.proofs.Needs.{needs, is_needed}
 use Rattle.name_store.proofs.PastLaws.{Alike, alike-shape, past-alike, lies-shaped, Restored, restored-shape, same-buffers, kept-push, kept-free, kept-drop, kept-length, undoable-push, undoable-drop, undoable-still, Slots}
 use Rattle.name_store.proofs.StateLaws.{Freed, freed-swept}
@@ -82,7 +82,7 @@ module _ (es : List (List ℕ × Entry)) (slots : Slots) (ring : Ring Change) (s
       holds = record {
         few = holds.few;
         lie = all-both (λ e. LiesAt (slot_at now e.number) e) (λ e. is_in_use names' e.number ≡ true) (λ e. LiesAt (slot_at after e.number) e)
-            (λ e here used. lies-shaped (slot_at after e.number) (slot_at now e.number) e (alike-shape (slot_at after e.number) (slot_at now e.number) (stays e.number (in_front (is_in_use names' e.number) (list_any (needs e.number) ring'.items) used))) here) es' holds.lie (all-in_use es');
+            (λ e here used. lies-shaped (slot_at after e.number) (slot_at now e.number) e (alike-shape (slot_at after e.number) (slot_at now e.number) (stays e.number (or_left (is_in_use names' e.number) (list_any (needs e.number) ring'.items) used))) here) es' holds.lie (all-in_use es');
       };
       counted = counted;
       undoable = undoable-still ring'.items names' after now (λ q needed. alike-shape (slot_at after q) (slot_at now q) (stays q needed)) (subst (λ (cs : List Change). AreUndoable cs names' now) (sym items-are) (undoable-drop n all names' now all-undoable));
@@ -104,7 +104,7 @@ module _ (es : List (List ℕ × Entry)) (slots : Slots) (ring : Ring Change) (s
         ∙ ap (keep_last ring.capacity) kept-now
 
     buffers-are : past_buffers [] names' after ≡ past_buffers [] names' now
-    buffers-are = same-buffers [] [] names' after now (λ q used. past-alike [] q (slot_at after q) (slot_at now q) (stays q (in_front (is_in_use names' q) (list_any (needs q) ring'.items) used)))
+    buffers-are = same-buffers [] [] names' after now (λ q used. past-alike [] q (slot_at after q) (slot_at now q) (stays q (or_left (is_in_use names' q) (list_any (needs q) ring'.items) used)))
 
     -- the state before the change is kept, and names and buffers are the new ones
     pub keep-state : state_of es' after ring' ≡ record (keeping (state_of es slots ring)) { names = names'; buffers = past_buffers [] names' now }

@@ -1,41 +1,24 @@
 -- Looking up, putting and removing names in a table.
 use Rattle.std.proofs.Common.{◌≡◌, ◌+◌, ℕ, suc, Bool, true, false, List, [], ◌∷◌, take, drop, insert, map, refl, sym, ap, subst, ◌∙◌, cond, ◌||◌, not, Some, None, nat_eq, arith, ◌⊎◌, inl, inr}
-use Rattle.name_store.proofs.Words.{AllByRecursion, list_any, position_or_len, take-append-drop, list_any-append, option_map, bytes_eq, nat_eq_equiv, bytes_eq-Decides, insert_entry, shift_remove_entry, lookup, keys_of, Array, find_array, put_array, without, is_in_use, array_at, named_array, Entry}
-
-same : (xs ys : List ℕ) → bytes_eq xs ys ≡ true → xs ≡ ys
-same xs ys e = (bytes_eq-Decides xs ys).0 e
-
-itself : (xs ys : List ℕ) → xs ≡ ys → bytes_eq xs ys ≡ true
-itself xs ys e = (bytes_eq-Decides xs ys).1 e
+use Rattle.name_store.proofs.Words.{or_cases, or_left, or_right, AllByRecursion, list_any, position_or_len, take-append-drop, list_any-append, option_map, bytes_eq, nat_eq_equiv, bytes_eq-Decides, insert_entry, shift_remove_entry, lookup, keys_of, Array, find_array, put_array, without, is_in_use, array_at, named_array, Entry}
 
 pub bytes_eq-sym : (xs ys : List ℕ) → bytes_eq xs ys ≡ bytes_eq ys xs
 bytes_eq-sym xs ys =
     elim (bytes_eq xs ys) as (λ t. bytes_eq xs ys ≡ t → t ≡ bytes_eq ys xs) [
-      | true ↦ λ e. sym (itself ys xs (sym (same xs ys e)))
+      | true ↦ λ e. sym ((bytes_eq-Decides ys xs).1 (sym ((bytes_eq-Decides xs ys).0 e)))
       | false ↦ λ e. other (bytes_eq ys xs) refl e
     ] refl
   where
     other : (u : Bool) → bytes_eq ys xs ≡ u → bytes_eq xs ys ≡ false → false ≡ bytes_eq ys xs
-    other true is differs = let wrong : true ≡ false = sym (itself xs ys (sym (same ys xs is))) ∙ differs in cc
+    other true is differs = let wrong : true ≡ false = sym ((bytes_eq-Decides xs ys).1 (sym ((bytes_eq-Decides ys xs).0 is))) ∙ differs in cc
     other false is differs = sym is
 
 pub nat_itself : (n : ℕ) → nat_eq n n ≡ true
 nat_itself n = (nat_eq_equiv).refl n
 
-pub in_front : (a b : Bool) → a ≡ true → (a || b) ≡ true
-in_front a b h = ap (λ t. t || b) h
-
-pub either : (a b : Bool) → (a || b) ≡ true → (a ≡ true) ⊎ (b ≡ true)
-either true b h = inl refl
-either false b h = inr h
-
 pub or_none : (a : Bool) → (a || false) ≡ true → a ≡ true
 or_none true h = refl
 or_none false h = h
-
-pub in_tail : (a b : Bool) → b ≡ true → (a || b) ≡ true
-in_tail true b h = refl
-in_tail false b h = h
 
 -- the test of keys tells whether a key is this name
 abbrev pub TestsName : (List ℕ → Bool) → List ℕ → Type 0
@@ -62,7 +45,7 @@ pub put-insert : (eq : List ℕ → List ℕ → Bool) (k : List ℕ) (v : Entry
 put-insert eq k v is [] = refl
 put-insert eq k v is (e ∷ es) =
     elim (eq k e.0) as (λ t. eq k e.0 ≡ t → map named_array (cond t ((e.0, v) ∷ es) (e ∷ insert_entry eq es k v)) ≡ cond t ((k, array_at v) ∷ map named_array es) (named_array e ∷ put_array (map named_array es) k (array_at v))) [
-      | true ↦ λ h. ap (λ (n : List ℕ). (n, array_at v) ∷ map named_array es) (sym (same k e.0 (sym (is e.0) ∙ h)))
+      | true ↦ λ h. ap (λ (n : List ℕ). (n, array_at v) ∷ map named_array es) (sym ((bytes_eq-Decides k e.0).0 (sym (is e.0) ∙ h)))
       | false ↦ λ _. ap (λ names. named_array e ∷ names) (put-insert eq k v is es)
     ] refl
     ∙ ap (λ t. cond t ((k, array_at v) ∷ map named_array es) (named_array e ∷ put_array (map named_array es) k (array_at v))) (is e.0 ∙ bytes_eq-sym k e.0)
@@ -110,7 +93,7 @@ used-put [] name array = ap (λ t. t || false) (nat_itself array.buffer)
 used-put (e ∷ names) name array =
     elim (bytes_eq e.0 name) as (λ t. is_in_use (cond t ((name, array) ∷ names) (e ∷ put_array names name array)) array.buffer ≡ true) [
       | true ↦ ap (λ t. t || is_in_use names array.buffer) (nat_itself array.buffer)
-      | false ↦ in_tail (nat_eq e.1.buffer array.buffer) (is_in_use (put_array names name array) array.buffer) (used-put names name array)
+      | false ↦ or_right (nat_eq e.1.buffer array.buffer) (is_in_use (put_array names name array) array.buffer) (used-put names name array)
     ]
 
 -- the buffer of an array that is found is in use
@@ -119,7 +102,7 @@ found-used [] name array found = let no : ⊥ = cc in absurd no
 found-used (e ∷ names) name array found =
     elim (bytes_eq e.0 name) as (λ t. cond t (Some e.1) (find_array names name) ≡ Some array → is_in_use (e ∷ names) array.buffer ≡ true) [
       | true ↦ λ h. let here : e.1 ≡ array = cc in ap (λ t. t || is_in_use names array.buffer) (ap (λ (a : Array). nat_eq a.buffer array.buffer) here ∙ nat_itself array.buffer)
-      | false ↦ λ h. in_tail (nat_eq e.1.buffer array.buffer) (is_in_use names array.buffer) (found-used names name array h)
+      | false ↦ λ h. or_right (nat_eq e.1.buffer array.buffer) (is_in_use names array.buffer) (found-used names name array h)
     ] found
 
 -- and so is the buffer of an entry that is found
@@ -131,10 +114,10 @@ pub used-back-put : (names : List (List ℕ × Array)) (name : List ℕ) (array 
 used-back-put [] name array q used = inr (or_none (nat_eq array.buffer q) used)
 used-back-put (e ∷ names) name array q used =
     elim (bytes_eq e.0 name) as (λ t. is_in_use (cond t ((name, array) ∷ names) (e ∷ put_array names name array)) q ≡ true → (is_in_use (e ∷ names) q ≡ true) ⊎ (nat_eq array.buffer q ≡ true)) [
-      | true ↦ λ h. elim (either (nat_eq array.buffer q) (is_in_use names q) h) [ inl own ↦ inr own | inr later ↦ inl (in_tail (nat_eq e.1.buffer q) (is_in_use names q) later) ]
-      | false ↦ λ h. elim (either (nat_eq e.1.buffer q) (is_in_use (put_array names name array) q) h) [
-        | inl here ↦ inl (in_front (nat_eq e.1.buffer q) (is_in_use names q) here)
-        | inr later ↦ elim (used-back-put names name array q later) [ inl was ↦ inl (in_tail (nat_eq e.1.buffer q) (is_in_use names q) was) | inr own ↦ inr own ]
+      | true ↦ λ h. elim (or_cases (nat_eq array.buffer q) (is_in_use names q) h) [ inl own ↦ inr own | inr later ↦ inl (or_right (nat_eq e.1.buffer q) (is_in_use names q) later) ]
+      | false ↦ λ h. elim (or_cases (nat_eq e.1.buffer q) (is_in_use (put_array names name array) q) h) [
+        | inl here ↦ inl (or_left (nat_eq e.1.buffer q) (is_in_use names q) here)
+        | inr later ↦ elim (used-back-put names name array q later) [ inl was ↦ inl (or_right (nat_eq e.1.buffer q) (is_in_use names q) was) | inr own ↦ inr own ]
       ]
     ] used
 
@@ -142,10 +125,10 @@ pub used-back-without : (names : List (List ℕ × Array)) (name : List ℕ) (q 
 used-back-without [] name q used = used
 used-back-without (e ∷ names) name q used =
     elim (bytes_eq e.0 name) as (λ t. is_in_use (cond t names (e ∷ without names name)) q ≡ true → is_in_use (e ∷ names) q ≡ true) [
-      | true ↦ λ h. in_tail (nat_eq e.1.buffer q) (is_in_use names q) h
-      | false ↦ λ h. elim (either (nat_eq e.1.buffer q) (is_in_use (without names name) q) h) [
-        | inl here ↦ in_front (nat_eq e.1.buffer q) (is_in_use names q) here
-        | inr later ↦ in_tail (nat_eq e.1.buffer q) (is_in_use names q) (used-back-without names name q later)
+      | true ↦ λ h. or_right (nat_eq e.1.buffer q) (is_in_use names q) h
+      | false ↦ λ h. elim (or_cases (nat_eq e.1.buffer q) (is_in_use (without names name) q) h) [
+        | inl here ↦ or_left (nat_eq e.1.buffer q) (is_in_use names q) here
+        | inr later ↦ or_right (nat_eq e.1.buffer q) (is_in_use names q) (used-back-without names name q later)
       ]
     ] used
 
@@ -162,23 +145,23 @@ module _ (names : List (List ℕ × Array)) (place : ℕ) (x : List ℕ × Array
 
   pub used-back-insert : is_in_use (insert names place x) q ≡ true → (is_in_use names q ≡ true) ⊎ (nat_eq x.1.buffer q ≡ true)
   used-back-insert used =
-      elim (either (list_any lies_in (take place names)) (nat_eq x.1.buffer q || list_any lies_in (drop place names)) (sym inserted-is ∙ used)) [
-        | inl front ↦ inl (split-is ∙ in_front (list_any lies_in (take place names)) (list_any lies_in (drop place names)) front)
-        | inr back ↦ elim (either (nat_eq x.1.buffer q) (list_any lies_in (drop place names)) back) [
+      elim (or_cases (list_any lies_in (take place names)) (nat_eq x.1.buffer q || list_any lies_in (drop place names)) (sym inserted-is ∙ used)) [
+        | inl front ↦ inl (split-is ∙ or_left (list_any lies_in (take place names)) (list_any lies_in (drop place names)) front)
+        | inr back ↦ elim (or_cases (nat_eq x.1.buffer q) (list_any lies_in (drop place names)) back) [
           | inl own ↦ inr own
-          | inr later ↦ inl (split-is ∙ in_tail (list_any lies_in (take place names)) (list_any lies_in (drop place names)) later)
+          | inr later ↦ inl (split-is ∙ or_right (list_any lies_in (take place names)) (list_any lies_in (drop place names)) later)
         ]
       ]
 
   pub used-insert : nat_eq x.1.buffer q ≡ true → is_in_use (insert names place x) q ≡ true
   used-insert own =
       inserted-is
-      ∙ in_tail (list_any lies_in (take place names)) (nat_eq x.1.buffer q || list_any lies_in (drop place names)) (in_front (nat_eq x.1.buffer q) (list_any lies_in (drop place names)) own)
+      ∙ or_right (list_any lies_in (take place names)) (nat_eq x.1.buffer q || list_any lies_in (drop place names)) (or_left (nat_eq x.1.buffer q) (list_any lies_in (drop place names)) own)
 
 -- Binding a name and then unbinding it, and the other way round.
 
 pub without-put : (names : List (List ℕ × Array)) (name : List ℕ) (array : Array) → find_array names name ≡ None → without (put_array names name array) name ≡ names
-without-put [] name array none = ap (λ t. cond t [] ((name, array) ∷ [])) (itself name name refl)
+without-put [] name array none = ap (λ t. cond t [] ((name, array) ∷ [])) ((bytes_eq-Decides name name).1 refl)
 without-put (e ∷ names) name array none =
     elim (bytes_eq e.0 name) as (λ t. bytes_eq e.0 name ≡ t → cond t (Some e.1) (find_array names name) ≡ None → without (cond t ((name, array) ∷ names) (e ∷ put_array names name array)) name ≡ e ∷ names) [
       | true ↦ λ _ h. let no : ⊥ = cc in absurd no
@@ -191,8 +174,8 @@ put-put (e ∷ names) name array before found =
     elim (bytes_eq e.0 name) as (λ t. bytes_eq e.0 name ≡ t → cond t (Some e.1) (find_array names name) ≡ Some before → put_array (cond t ((name, array) ∷ names) (e ∷ put_array names name array)) name before ≡ e ∷ names) [
       | true ↦ λ is h.
           let here : e.1 ≡ before = cc in
-          ap (λ t. cond t ((name, before) ∷ names) ((name, array) ∷ put_array names name before)) (itself name name refl)
-          ∙ λ i. (sym (same e.0 name is) i, sym here i) ∷ names
+          ap (λ t. cond t ((name, before) ∷ names) ((name, array) ∷ put_array names name before)) ((bytes_eq-Decides name name).1 refl)
+          ∙ λ i. (sym ((bytes_eq-Decides e.0 name).0 is) i, sym here i) ∷ names
       | false ↦ λ is h. ap (λ t. cond t ((name, before) ∷ put_array names name array) (e ∷ put_array (put_array names name array) name before)) is ∙ ap (λ ns. e ∷ ns) (put-put names name array before h)
     ] refl found
 
@@ -205,7 +188,7 @@ insert-removed test name is (x ∷ es) e place was at =
       | true ↦ λ passes h first.
           let here : x.1 ≡ e = cc in
           ap (λ n. insert (map named_array es) n (name, array_at e)) first
-          ∙ λ i. (same name x.0 (sym (is x.0) ∙ passes) i, array_at (sym here i)) ∷ map named_array es
+          ∙ λ i. ((bytes_eq-Decides name x.0).0 (sym (is x.0) ∙ passes) i, array_at (sym here i)) ∷ map named_array es
       | false ↦ λ _ h later.
           let rest : List (List ℕ × Array) = map named_array (shift_remove_entry test es) in
           let p : ℕ = position_or_len test (keys_of es) in

@@ -1,6 +1,6 @@
 -- Whether a buffer is needed, and how many users it has.
 use Rattle.std.proofs.Common.{◌≡◌, ◌+◌, ◌-◌, ◌^◌, ◌≤◌, ◌<◌, ℕ, zero, suc, Bool, true, false, List, [], ◌∷◌, ◌++◌, length, insert, map, refl, sym, ap, ◌∙◌, cond, ◌||◌, Option, Some, None, is_some, nat_eq, nat_lt, arith}
-use Rattle.name_store.proofs.Words.{list_any, option_map, bytes_eq, lt-ltb, length-map, find_array, put_array, without, is_in_use, IsSound, one_at, users_in, pins, found_at, held_number, all_pins, users_of, users_at, Names, Array, named_array, slot_at, Change, Bind, Unbind, Write, Entry, Slot, Ring}
+use Rattle.name_store.proofs.Words.{list_any, option_map, bytes_eq, lt-ltb, ltb-true, length-map, find_array, put_array, without, is_in_use, IsSound, one_at, users_in, pins, found_at, held_number, all_pins, users_of, users_at, Names, Array, named_array, slot_at, Change, Bind, Unbind, Write, Entry, Slot, Ring}
 
 -- whether buffer `number` is needed to undo a change
 abbrev pub needs : ℕ → Change → Bool
@@ -46,8 +46,7 @@ there-count None = refl
 there-count (Some s) = sym (lt-ltb 0 s.users s.is_used)
 
 pub there-used : (o : Option Slot) → is_some o ≡ true → 1 ≤ users_of o
-there-used None none = let no : ⊥ = cc in absurd no
-there-used (Some s) some = s.is_used
+there-used o there = omega (arith, ltb-true 0 (users_of o) (sym (there-count o) ∙ there))
 
 pub needed-there : (names : Names) (cs : List Change) (slots : List (Option Slot)) → ((q : ℕ) → users_at slots q ≡ users_in q names + all_pins q cs) → (q : ℕ) → is_some (slot_at slots q) ≡ is_needed names cs q
 needed-there names cs slots counted q = there-count (slot_at slots q) ∙ ap (nat_lt 0) (counted q) ∙ needed-count names cs q

@@ -1,8 +1,8 @@
 -- The kept states after a change is kept, undone or forgotten.
 use Rattle.std.proofs.Common.{◌≡◌, ◌+◌, ◌*◌, ◌≤◌, ℕ, zero, suc, Bool, true, false, List, [], ◌∷◌, ◌++◌, length, drop, refl, sym, ap, subst, ◌∙◌, cond, ◌||◌, Option, Some, None, All, ◌⊎◌, inl, inr}
-use Rattle.name_store.proofs.Words.{AllByRecursion, list_any, option_map, nat_cmp_total, get, same_map, nat_cmp-IsAntisymmetric, eqb-true, Descr, items_in, item_size, Buffer, put_array, is_in_use, LiesAt, GoBackAt, IsUndoable, AreUndoable, Names, names_before, bytes_before, past_names, past_bytes, past_buffer, past_buffers, kept_states, target_offsets, array_at, slot_at, Change, Bind, Unbind, Write, Entry, OldItems, Slot, Target, stand}
+use Rattle.name_store.proofs.Words.{or_cases, or_left, or_right, AllByRecursion, list_any, option_map, nat_cmp_total, get, same_map, nat_cmp-IsAntisymmetric, eqb-true, Descr, items_in, item_size, Buffer, put_array, is_in_use, LiesAt, GoBackAt, IsUndoable, AreUndoable, Names, names_before, bytes_before, past_names, past_bytes, past_buffer, past_buffers, kept_states, target_offsets, array_at, slot_at, Change, Bind, Unbind, Write, Entry, OldItems, Slot, Target, stand}
 use Rattle.name_store.proofs.LaidLaws.{laid-same}
-use Rattle.name_store.proofs.NameLaws.{in_front, in_tail, either, used-back-put, used-back-without, used-back-insert, used-put, used-insert, nat_itself}
+use Rattle.name_store.proofs.NameLaws.{used-back-put, used-back-without, used-back-insert, used-put, used-insert, nat_itself}
 use Rattle.name_store.proofs.Needs.{needs, is_needed}
 use Rattle.name_store.proofs.SlotLaws.{get-past}
 
@@ -20,16 +20,16 @@ used-before (Write number target items) names q used = inl used
 
 pub needed-more : (names : Names) (c : Change) (cs : List Change) (q : ℕ) → is_needed names cs q ≡ true → is_needed names (c ∷ cs) q ≡ true
 needed-more names c cs q h =
-    elim (either (is_in_use names q) (list_any (needs q) cs) h) [
-      | inl used ↦ in_front (is_in_use names q) (needs q c || list_any (needs q) cs) used
-      | inr needed ↦ in_tail (is_in_use names q) (needs q c || list_any (needs q) cs) (in_tail (needs q c) (list_any (needs q) cs) needed)
+    elim (or_cases (is_in_use names q) (list_any (needs q) cs) h) [
+      | inl used ↦ or_left (is_in_use names q) (needs q c || list_any (needs q) cs) used
+      | inr needed ↦ or_right (is_in_use names q) (needs q c || list_any (needs q) cs) (or_right (needs q c) (list_any (needs q) cs) needed)
     ]
 
 pub needed-first : (names : Names) (c : Change) (cs : List Change) (q : ℕ) → needs q c ≡ true → is_needed names (c ∷ cs) q ≡ true
-needed-first names c cs q h = in_tail (is_in_use names q) (needs q c || list_any (needs q) cs) (in_front (needs q c) (list_any (needs q) cs) h)
+needed-first names c cs q h = or_right (is_in_use names q) (needs q c || list_any (needs q) cs) (or_left (needs q c) (list_any (needs q) cs) h)
 
 pub needed-past : (cs : List Change) (names : Names) (q : ℕ) → is_in_use (past_names cs names) q ≡ true → is_needed names cs q ≡ true
-needed-past [] names q used = in_front (is_in_use names q) false used
+needed-past [] names q used = or_left (is_in_use names q) false used
 needed-past (c ∷ cs) names q used =
     elim (used-before c (past_names cs names) q used) [
       | inl later ↦ needed-more names c cs q (needed-past cs names q later)
@@ -57,29 +57,28 @@ Alike now before = option_map stand now ≡ option_map stand before
 abbrev pub Restored : Change → ℕ → Option Slot → Option Slot → Type 0
 Restored c q now before = option_map (content_before c q) now ≡ option_map stand before
 
-restored-past : (cs : List Change) (c : Change) (q : ℕ) (now before : Option Slot) → Restored c q now before → option_map (past_buffer (cs ++ c ∷ []) q) now ≡ option_map (past_buffer cs q) before
-restored-past cs c q now before restored = one now ∙ ap (option_map past) restored ∙ other before
+-- what is told by the contents of slots is the same if the contents are
+told : {X Y : Type 0} (f g : Slot → X) (h h' : Slot → Y) (tell : X → Y) → ((s : Slot) → h s ≡ tell (f s)) → ((s : Slot) → tell (g s) ≡ h' s) → (now before : Option Slot) → option_map f now ≡ option_map g before → option_map h now ≡ option_map h' before
+told f g h h' tell first last now before same = one now ∙ ap (option_map tell) same ∙ other before
   where
-    past : Descr × ℕ × List ℕ → Buffer
-    past t = record { descr = t.0; items = items_in t.0 t.1 (past_bytes cs q t.2) }
-
-    one : (o : Option Slot) → option_map (past_buffer (cs ++ c ∷ []) q) o ≡ option_map past (option_map (content_before c q) o)
+    one : (o : Option Slot) → option_map h o ≡ option_map tell (option_map f o)
     one None = refl
-    one (Some s) = ap (λ bytes. Some (record { descr = s.descr; items = items_in s.descr s.items bytes })) (past_bytes-push cs c q s.block)
+    one (Some s) = ap Some (first s)
 
-    other : (o : Option Slot) → option_map past (option_map stand o) ≡ option_map (past_buffer cs q) o
+    other : (o : Option Slot) → option_map tell (option_map g o) ≡ option_map h' o
     other None = refl
-    other (Some s) = refl
+    other (Some s) = ap Some (last s)
+
+-- the buffer with contents, after changes are undone
+abbrev undone_buffer : List Change → ℕ → Descr × ℕ × List ℕ → Buffer
+undone_buffer cs q t = record { descr = t.0; items = items_in t.0 t.1 (past_bytes cs q t.2) }
+
+restored-past : (cs : List Change) (c : Change) (q : ℕ) (now before : Option Slot) → Restored c q now before → option_map (past_buffer (cs ++ c ∷ []) q) now ≡ option_map (past_buffer cs q) before
+restored-past cs c q = told (content_before c q) stand (past_buffer (cs ++ c ∷ []) q) (past_buffer cs q) (undone_buffer cs q)
+    (λ s. ap (λ bytes. record { descr = s.descr; items = items_in s.descr s.items bytes }) (past_bytes-push cs c q s.block)) (λ s. refl)
 
 pub past-alike : (cs : List Change) (q : ℕ) (now before : Option Slot) → Alike now before → option_map (past_buffer cs q) now ≡ option_map (past_buffer cs q) before
-past-alike cs q now before alike = one now ∙ ap (option_map past) alike ∙ sym (one before)
-  where
-    past : Descr × ℕ × List ℕ → Buffer
-    past t = record { descr = t.0; items = items_in t.0 t.1 (past_bytes cs q t.2) }
-
-    one : (o : Option Slot) → option_map (past_buffer cs q) o ≡ option_map past (option_map stand o)
-    one None = refl
-    one (Some s) = refl
+past-alike cs q = told stand stand (past_buffer cs q) (past_buffer cs q) (undone_buffer cs q) (λ s. refl) (λ s. refl)
 
 -- the buffers that names use depend only on the contents of their slots
 pub same-buffers : (cs cs' : List Change) (names : Names) (slots slots' : Slots) → ((q : ℕ) → is_in_use names q ≡ true → option_map (past_buffer cs q) (slot_at slots q) ≡ option_map (past_buffer cs' q) (slot_at slots' q)) →
@@ -98,7 +97,7 @@ pub kept-push : (cs : List Change) (c : Change) (names : Names) (slots before : 
     kept_states (cs ++ c ∷ []) names slots ≡ kept_states cs (names_before c names) before ++ (names_before c names, past_buffers [] (names_before c names) before) ∷ []
 kept-push [] c names slots before restored =
     let past : Names = names_before c names in
-    λ i. (past, same-buffers (c ∷ []) [] past slots before (λ q used. restored-past [] c q (slot_at slots q) (slot_at before q) (restored q (in_front (is_in_use past q) false used))) i) ∷ []
+    λ i. (past, same-buffers (c ∷ []) [] past slots before (λ q used. restored-past [] c q (slot_at slots q) (slot_at before q) (restored q (or_left (is_in_use past q) false used))) i) ∷ []
 kept-push (d ∷ cs) c names slots before restored =
     let now : Names = names_before c names in
     let past : Names = past_names (d ∷ cs) now in
@@ -133,28 +132,10 @@ abbrev pub SameShape : Option Slot → Option Slot → Type 0
 SameShape now before = option_map shape now ≡ option_map shape before
 
 pub restored-shape : (c : Change) (q : ℕ) (now before : Option Slot) → Restored c q now before → SameShape now before
-restored-shape c q now before restored = one now ∙ ap (option_map first) restored ∙ other before
-  where
-    first : Descr × ℕ × List ℕ → Descr × ℕ
-    first t = (t.0, t.1)
-
-    one : (o : Option Slot) → option_map shape o ≡ option_map first (option_map (content_before c q) o)
-    one None = refl
-    one (Some s) = refl
-
-    other : (o : Option Slot) → option_map first (option_map stand o) ≡ option_map shape o
-    other None = refl
-    other (Some s) = refl
+restored-shape c q = told (content_before c q) stand shape shape (λ t. (t.0, t.1)) (λ s. refl) (λ s. refl)
 
 pub alike-shape : (now before : Option Slot) → Alike now before → SameShape now before
-alike-shape now before alike = one now ∙ ap (option_map first) alike ∙ sym (one before)
-  where
-    first : Descr × ℕ × List ℕ → Descr × ℕ
-    first t = (t.0, t.1)
-
-    one : (o : Option Slot) → option_map shape o ≡ option_map first (option_map stand o)
-    one None = refl
-    one (Some s) = refl
+alike-shape = told stand stand shape shape (λ t. (t.0, t.1)) (λ s. refl) (λ s. refl)
 
 pair-is : (s s' : Slot) → Some (shape s') ≡ Some (shape s) → shape s' ≡ shape s
 pair-is s s' h = cc
@@ -240,7 +221,7 @@ needs-used (Write number target items) names slots q can own = let no : ⊥ = cc
 pub kept-some : (cs : List Change) (names : Names) (slots : Slots) (q : ℕ) (s : Slot) → slot_at slots q ≡ Some s → AreUndoable cs names slots → list_any (needs q) cs ≡ true → AllByRecursion (λ state. get state.1 q ≡ None) (kept_states cs names slots) → ⊥
 kept-some [] names slots q s there can needed none = let no : ⊥ = cc in no
 kept-some (c ∷ cs) names slots q s there can needed none =
-    elim (either (needs q c) (list_any (needs q) cs) needed) [
+    elim (or_cases (needs q c) (list_any (needs q) cs) needed) [
       | inl own ↦
           let past : Names = past_names (c ∷ cs) names in
           let used : is_in_use past q ≡ true = needs-used c (past_names cs names) slots q can.1 own in

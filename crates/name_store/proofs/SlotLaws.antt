@@ -1,43 +1,34 @@
 -- Slots by number, and the buffers in them.
 use Rattle.std.proofs.Common.{◌≡◌, ◌≢◌, ◌+◌, ◌<◌, ◌≤◌, ℕ, zero, suc, Bool, true, false, List, [], ◌∷◌, ◌++◌, length, map, refl, sym, ap, ◌∙◌, cond, Option, Some, None, is_some, nat_eq, slice_set, get_or, arith, MutBor}
-use Rattle.name_store.proofs.Words.{option_copied_mut, option_map, nat_cmp, eq_by_cmp, is_eq, nat_cmp_total, eq_by_cmp_equiv, Less, Equal, Greater, get, find, from_entries, get-from_entries, get-retain_keys, nat_cmp-IsAntisymmetric, eqb-true, eqb-false, ne_eqb, is_in_use, Names, numbered, past_buffer, past_buffers, named_array, slot_at, buffer_in, present, Change, Entry, Slot}
+use Rattle.name_store.proofs.Words.{eqb-suc-suc, eqb-suc-zero, eqb-zero-suc, option_copied_mut, option_map, nat_cmp, eq_by_cmp, is_eq, nat_cmp_total, eq_by_cmp_equiv, Less, Equal, Greater, get, find, from_entries, get-from_entries, get-retain_keys, nat_cmp-IsAntisymmetric, eqb-true, eqb-false, is_in_use, Names, numbered, past_buffer, past_buffers, named_array, slot_at, buffer_in, present, Change, Entry, Slot}
 use Rattle.name_store.proofs.NameLaws.{nat_itself}
-
-eq-suc : (q n : ℕ) → nat_eq q n ≡ nat_eq (suc q) (suc n)
-eq-suc q n = elim (nat_eq q n) as (λ t. nat_eq q n ≡ t → t ≡ nat_eq (suc q) (suc n)) [
-  | true ↦ λ e. sym (ap (λ k. nat_eq (suc q) (suc k)) (sym (eqb-true q n e)) ∙ nat_itself (suc q))
-  | false ↦ λ e. sym (ne_eqb (suc q) (suc n) (λ s. let same : q ≡ n = omega arith in eqb-false q n e same))
-] refl
-
-past-zero : (q : ℕ) → false ≡ nat_eq (suc q) 0
-past-zero q = sym (ne_eqb (suc q) 0 (λ s. let no : ⊥ = omega arith in no))
-
-before-suc : (n : ℕ) → false ≡ nat_eq 0 (suc n)
-before-suc n = sym (ne_eqb 0 (suc n) (λ s. let no : ⊥ = omega arith in no))
 
 -- the slot of each number after one slot is set, or one is pushed
 pub slot_at-set : (slots : List (Option Slot)) (n : ℕ) (s : Option Slot) (q : ℕ) → n < length slots → slot_at (slice_set slots n s) q ≡ cond (nat_eq q n) s (slot_at slots q)
 slot_at-set [] n s q h = absurd (omega arith)
 slot_at-set (x ∷ slots) zero s zero h = refl
-slot_at-set (x ∷ slots) zero s (suc q) h = ap (λ t. cond t s (slot_at slots q)) (past-zero q)
-slot_at-set (x ∷ slots) (suc n) s zero h = ap (λ t. cond t s x) (before-suc n)
-slot_at-set (x ∷ slots) (suc n) s (suc q) h = slot_at-set slots n s q (omega arith) ∙ ap (λ t. cond t s (slot_at slots q)) (eq-suc q n)
+slot_at-set (x ∷ slots) zero s (suc q) h = ap (λ t. cond t s (slot_at slots q)) (sym (eqb-suc-zero q))
+slot_at-set (x ∷ slots) (suc n) s zero h = ap (λ t. cond t s x) (sym (eqb-zero-suc n))
+slot_at-set (x ∷ slots) (suc n) s (suc q) h = slot_at-set slots n s q (omega arith) ∙ ap (λ t. cond t s (slot_at slots q)) (sym (eqb-suc-suc q n))
 
 pub slot_at-push : (slots : List (Option Slot)) (s : Option Slot) (q : ℕ) → slot_at (slots ++ s ∷ []) q ≡ cond (nat_eq q (length slots)) s (slot_at slots q)
 slot_at-push [] s zero = refl
-slot_at-push [] s (suc q) = ap (λ t. cond t s None) (past-zero q)
-slot_at-push (x ∷ slots) s zero = ap (λ t. cond t s x) (before-suc (length slots))
-slot_at-push (x ∷ slots) s (suc q) = slot_at-push slots s q ∙ ap (λ t. cond t s (slot_at slots q)) (eq-suc q (length slots))
+slot_at-push [] s (suc q) = ap (λ t. cond t s None) (sym (eqb-suc-zero q))
+slot_at-push (x ∷ slots) s zero = ap (λ t. cond t s x) (sym (eqb-zero-suc (length slots)))
+slot_at-push (x ∷ slots) s (suc q) = slot_at-push slots s q ∙ ap (λ t. cond t s (slot_at slots q)) (sym (eqb-suc-suc q (length slots)))
 
 pub slot_at-past : (slots : List (Option Slot)) (q : ℕ) → length slots ≤ q → slot_at slots q ≡ None
 slot_at-past [] q h = refl
 slot_at-past (x ∷ slots) zero h = absurd (omega arith)
 slot_at-past (x ∷ slots) (suc q) h = slot_at-past slots q (omega arith)
 
+pub occupied-within : (slots : List (Option Slot)) (q : ℕ) → is_some (slot_at slots q) ≡ true → q < length slots
+occupied-within [] q there = let no : ⊥ = cc in absurd no
+occupied-within (x ∷ slots) zero there = omega arith
+occupied-within (x ∷ slots) (suc q) there = omega (arith, occupied-within slots q there)
+
 pub slot_at-within : (slots : List (Option Slot)) (q : ℕ) (s : Slot) → slot_at slots q ≡ Some s → q < length slots
-slot_at-within [] q s h = let no : ⊥ = cc in absurd no
-slot_at-within (x ∷ slots) zero s h = omega arith
-slot_at-within (x ∷ slots) (suc q) s h = omega (arith, slot_at-within slots q s h)
+slot_at-within slots q s there = occupied-within slots q (ap is_some there)
 
 pub slot_at-get_or : (slots : List (Option Slot)) (q : ℕ) (d : Option Slot) → q < length slots → get_or slots q d ≡ slot_at slots q
 slot_at-get_or [] q d h = absurd (omega arith)

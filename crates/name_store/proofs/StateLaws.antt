@@ -1,9 +1,8 @@
 -- Names and slots after buffers are freed.
-use Rattle.std.proofs.Common.{◌≡◌, ◌+◌, ◌<◌, ◌≤◌, ℕ, Bool, true, List, length, map, refl, sym, ap, subst, ◌∙◌, cond, ◌||◌, Option, Some, None, is_some, nat_lt, arith}
+use Rattle.std.proofs.Common.{◌≡◌, ◌+◌, ◌≤◌, ℕ, Bool, true, List, length, map, refl, sym, ap, subst, ◌∙◌, cond, ◌||◌, Option, Some, None, is_some, nat_lt, arith}
 use Rattle.name_store.proofs.Words.{lookup, option_map, ltb-true, length-map, find_array, has_room_for, Holds, LiesAt, LiesIn, users_at, users_in, all_pins, Names, array_at, named_array, slot_at, present, Change, Entry, Slot, stand}
 use Rattle.name_store.proofs.NameLaws.{TestsName, find-lookup, all-lookup}
 use Rattle.name_store.proofs.Needs.{is_needed, needed-count, there-used}
-use Rattle.name_store.proofs.SlotLaws.{slot_at-within}
 use Rattle.name_store.proofs.HeldLaws.{held-stand}
 use Rattle.name_store.proofs.PastLaws.{Slots}
 
@@ -26,13 +25,6 @@ freed-swept names cs before after counted freed q = freed q ∙ ap (λ t. cond t
 pub lies-there : (o : Option Slot) (e : Entry) → LiesAt o e → is_some o ≡ true
 lies-there None e nothing = absurd nothing
 lies-there (Some s) e lies = refl
-
-pub occupied-within : (slots : Slots) (q : ℕ) → is_some (slot_at slots q) ≡ true → q < length slots
-occupied-within slots q there = by (slot_at slots q) refl there
-  where
-    by : (o : Option Slot) → slot_at slots q ≡ o → is_some o ≡ true → q < length slots
-    by None e h = let no : ⊥ = cc in absurd no
-    by (Some s) e h = slot_at-within slots q s e
 
 -- the number of names after one is added
 pub few-bound : (es : List (List ℕ × Entry)) (slots : Slots) (test : List ℕ → Bool) (name : List ℕ) → TestsName test name → has_room_for (present es slots) name ≡ true → lookup test es ≡ None → length es + 1 ≤ 1024

@@ -1,7 +1,7 @@
 -- Undoing a change.
 use Rattle.std.proofs.Common.{◌≡◌, ◌+◌, ◌-◌, ◌≤◌, ℕ, suc, true, false, List, [], ◌∷◌, ◌++◌, length, take, map, slice_get, refl, sym, ap, subst, ◌∙◌, cond, Some, None, is_some, Result, Ok, Err, IsOk, OnOk, arith, length-append}
-use Rattle.name_store.proofs.Words.{AllByRecursion, list_any, option_map, option_map_or, length-map, map-append, take-append_seam, buffer, last_item, Ring, FinMap, nat_cmp, Buffer, is_in_use, has_kept, undone, IsSound, LiesAt, IsUndoable, AreUndoable, users_at, users_in, pins, all_pins, Names, names_before, past_buffers, kept_states, patch_size, named_array, slot_at, state_of, Change, Entry, stand, Undoes}
-use Rattle.name_store.proofs.NameLaws.{all-both, all-in_use, in_front}
+use Rattle.name_store.proofs.Words.{or_left, AllByRecursion, list_any, option_map, option_map_or, length-map, map-append, take-append_seam, buffer, last_item, Ring, FinMap, nat_cmp, Buffer, is_in_use, has_kept, undone, IsSound, LiesAt, IsUndoable, AreUndoable, users_at, users_in, pins, all_pins, Names, names_before, past_buffers, kept_states, patch_size, named_array, slot_at, state_of, Change, Entry, stand, Undoes}
+use Rattle.name_store.proofs.NameLaws.{all-both, all-in_use}
 use Rattle.name_store.proofs.Needs.{needs, is_needed, pins-push}
 use Rattle.name_store.proofs.PastLaws.{Alike, alike-shape, past-alike, lies-shaped, Restored, restored-shape, same-buffers, kept-push, kept-free, undoable-pop, undoable-still, Slots}
 use Rattle.name_store.proofs.StateLaws.{Freed, freed-swept}
@@ -19,7 +19,7 @@ front-push xs x = ap (λ n. take n (xs ++ x ∷ [])) (omega (arith, length-appen
 
 pub split-last : {X : Type 0} (xs : List X) (x : X) → Some x ≡ last_item xs → take (length xs - 1) xs ++ x ∷ [] ≡ xs
 split-last {X = X} [] x h = let no : ⊥ = cc in absurd no
-split-last {X = X} (y ∷ ys) x h = by (length ys) refl h
+split-last {X = X} (y ∷ ys) x h = ap (λ k. take k (y ∷ ys) ++ x ∷ []) more ∙ go ys y (h ∙ ap (slice_get (y ∷ ys)) more)
   where
     more : suc (length ys) - 1 ≡ length ys
     more = omega arith
@@ -27,9 +27,6 @@ split-last {X = X} (y ∷ ys) x h = by (length ys) refl h
     go : (ys : List X) (y : X) → Some x ≡ slice_get (y ∷ ys) (length ys) → take (length ys) (y ∷ ys) ++ x ∷ [] ≡ y ∷ ys
     go [] y h = let same : x ≡ y = cc in ap (λ z. z ∷ []) same
     go (z ∷ ys) y h = ap (λ zs. y ∷ zs) (go ys z h)
-
-    by : (n : ℕ) → length ys ≡ n → Some x ≡ last_item (y ∷ ys) → take (length (y ∷ ys) - 1) (y ∷ ys) ++ x ∷ [] ≡ y ∷ ys
-    by n _ h = ap (λ k. take k (y ∷ ys) ++ x ∷ []) more ∙ go ys y (h ∙ ap (slice_get (y ∷ ys)) more)
 
 module _ (es : List (List ℕ × Entry)) (slots : Slots) (ring : Ring Change) (c : Change) (spare : ℕ) (sound : IsSound es slots (buffer (ring.items ++ c ∷ []) ring.capacity) spare) where
   abbrev names : Names
@@ -61,7 +58,7 @@ module _ (es : List (List ℕ × Entry)) (slots : Slots) (ring : Ring Change) (c
       holds = record {
         few = omega (arith, popped.1, ap length names-are, length-map es' named_array);
         lie = all-both (λ e. LiesAt (slot_at now e.number) e) (λ e. is_in_use names' e.number ≡ true) (λ e. LiesAt (slot_at after e.number) e)
-            (λ e here used. lies-shaped (slot_at after e.number) (slot_at now e.number) e (alike-shape (slot_at after e.number) (slot_at now e.number) (stays e.number (in_front (is_in_use past e.number) (list_any (needs e.number) ring.items) (ap (λ (ns : Names). is_in_use ns e.number) (sym names-are) ∙ used)))) here) es' lie (all-in_use es');
+            (λ e here used. lies-shaped (slot_at after e.number) (slot_at now e.number) e (alike-shape (slot_at after e.number) (slot_at now e.number) (stays e.number (or_left (is_in_use past e.number) (list_any (needs e.number) ring.items) (ap (λ (ns : Names). is_in_use ns e.number) (sym names-are) ∙ used)))) here) es' lie (all-in_use es');
       };
       counted = counted;
       undoable = subst (λ (ns : Names). AreUndoable ring.items ns after) (sym names-are)
@@ -73,7 +70,7 @@ module _ (es : List (List ℕ × Entry)) (slots : Slots) (ring : Ring Change) (c
     undo-kept : kept_states (ring.items ++ c ∷ []) names slots ≡ kept_states ring.items names' after ++ (names', past_buffers [] names' after) ∷ []
     undo-kept =
         kept-push ring.items c names slots now restored
-        ∙ (λ i. sym (kept-free ring.items past after now stays) i ++ (past, sym (same-buffers [] [] past after now (λ q used. past-alike [] q (slot_at after q) (slot_at now q) (stays q (in_front (is_in_use past q) (list_any (needs q) ring.items) used)))) i) ∷ [])
+        ∙ (λ i. sym (kept-free ring.items past after now stays) i ++ (past, sym (same-buffers [] [] past after now (λ q used. past-alike [] q (slot_at after q) (slot_at now q) (stays q (or_left (is_in_use past q) (list_any (needs q) ring.items) used)))) i) ∷ [])
         ∙ λ i. kept_states ring.items (sym names-are i) after ++ (sym names-are i, past_buffers [] (sym names-are i) after) ∷ []
 
     pub undoes : Undoes es slots c es' after ring spare'

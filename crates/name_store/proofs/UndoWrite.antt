@@ -1,10 +1,12 @@
 -- Undoing a write.
 use Rattle.std.proofs.Common.{◌≡◌, ◌<◌, ℕ, true, false, List, [], ◌∷◌, ◌++◌, length, refl, sym, ap, ◌∙◌, cond, Option, Some, None, is_some, nat_eq, arith}
 use Rattle.name_store.proofs.Words.{AllByRecursion, option_map, eqb-true, buffer, Ring, IsSound, LiesAt, GoBackAt, users_at, with_old, target_offsets, slot_at, Change, Write, Entry, OldItems, Slot, Target, stand, HasNew, Undoes}
+use Rattle.name_store.proofs.SlotLaws.{occupied-within}
 use Rattle.name_store.proofs.NameLaws.{all-both}
 use Rattle.name_store.proofs.PastLaws.{Restored, content_before, restored-shape, lies-shaped, Slots}
 use Rattle.name_store.proofs.RewriteLaws.{new-users}
-use Rattle.name_store.proofs.StateLaws.{freed-none, occupied-within}
+use Rattle.name_store.proofs.StateLaws.{freed-none}
+use Rattle.name_store.proofs.UnbindLaws.{same-content}
 use Rattle.name_store.proofs.UndoLaws.{undoes, popped}
 
 goes-there : (target : Target) (items : OldItems) (o : Option Slot) → GoBackAt target items o → is_some o ≡ true
@@ -29,10 +31,6 @@ module _ (es : List (List ℕ × Entry)) (slots : Slots) (ring : Ring Change) (s
   goes-within = occupied-within slots number goes-some
 
   module _ (after : Slots) (done : (old : Slot) → slot_at slots number ≡ Some old → HasNew slots number old (back old) after) where
-    elsewhere : (q : ℕ) → nat_eq q number ≡ false → (o : Option Slot) → option_map (content_before wrote q) o ≡ option_map stand o
-    elsewhere q other None = refl
-    elsewhere q other (Some s) = ap (λ t. Some (s.descr, s.items, cond t (back s) s.block)) other
-
     restored : (q : ℕ) → Restored wrote q (slot_at slots q) (slot_at after q)
     restored q = by (slot_at slots number) refl goes-back
       where
@@ -46,7 +44,7 @@ module _ (es : List (List ℕ × Entry)) (slots : Slots) (ring : Ring Change) (s
                   ∙ ap (λ t. Some (old.descr, old.items, cond t (back old) old.block)) same
                   ∙ (λ i. Some (sym h.rewritten.descr i, sym h.rewritten.items i, sym h.rewritten.block i))
                   ∙ ap (option_map stand) (sym put)
-              | false ↦ λ other put. elsewhere q other (slot_at slots q) ∙ ap (option_map stand) (sym put)
+              | false ↦ λ other put. same-content wrote q (slot_at slots q) (λ bytes. ap (λ t. cond t (with_old (target_offsets target) items bytes) bytes) other) ∙ ap (option_map stand) (sym put)
             ] refl (h.set q)
 
     lie : AllByRecursion (λ entry. LiesAt (slot_at after entry.1.number) entry.1) es

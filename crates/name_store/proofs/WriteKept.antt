@@ -1,5 +1,5 @@
 -- Writing items, and keeping the old ones.
-use Rattle.std.proofs.Common.{◌≡◌, ◌+◌, ◌*◌, ◌≤◌, ℕ, true, false, List, [], ◌∷◌, ◌++◌, length, map, min, refl, sym, ap, subst, ◌∙◌, cond, Option, Some, None, Result, Ok, Err, nat_eq, All, arith, ◌⊎◌, inl, inr}
+use Rattle.std.proofs.Common.{◌≡◌, ◌+◌, ◌*◌, ◌≤◌, ℕ, true, false, List, [], ◌∷◌, ◌++◌, length, map, min, refl, sym, ap, subst, ◌∙◌, cond, Some, Result, Ok, Err, nat_eq, All, arith, ◌⊎◌, inl, inr}
 use Rattle.name_store.proofs.Words.{IsPermutation, All-permutation, length_permutation, AllByRecursion, option_map, eqb-true, All-from_recursion, recursion_from_All, drop_of_length-le, buffer, keep_last, Descr, item_size, LeafValue, items_at, with_items, Ring, State, Array, is_in_use, keeping, descr_of, AnswersWrite, CountsWrite, Holds, IsSound, LiesAt, GoBackAt, GoBack, IsUndoable, users_at, users_in, pins, all_pins, with_old, Names, past_names, past_buffers, kept_states, patch_size, MoveInPlace, NeedsNoMemory, target_offsets, LeadsTo, MayWrite, Supplies, IsAim, array_at, named_array, slot_at, present, state_of, bench_value, Change, Write, Entry, OldItems, Slot, Overwritten, Source, One, Block, Target, View, Plan, IsHome, HasNew, CanWrite, NeedsNone, Puts, Writes, parts_of, without_slot, IsLowest, stand, AreKeptAt, AreOld, AreSame}
 use Rattle.name_store.specs.declared.write.Source.TheVariants.{Buffer}
 use Rattle.name_store.proofs.BindLaws.{view-present}
@@ -12,6 +12,7 @@ use Rattle.name_store.proofs.PastLaws.{Restored, alike-shape, past-alike, conten
 use Rattle.name_store.proofs.RestoreLaws.{restores-moved}
 use Rattle.name_store.proofs.RewriteLaws.{new-users, none-other}
 use Rattle.name_store.proofs.StateLaws.{Freed}
+use Rattle.name_store.proofs.UnbindLaws.{same-content}
 use Rattle.name_store.proofs.ViewLaws.{view-slot}
 use Rattle.name_store.proofs.WriteLaws.{size-is, written-holds}
 
@@ -220,12 +221,8 @@ module _ (es : List (List ℕ × Entry)) (slots : Slots) (ring : Ring Change) (s
                 ap (option_map (content_before c q)) here.1
                 ∙ (λ i. Some (new.rewritten.descr i, new.rewritten.items i, (ap (λ t. cond t (with_old os items s'.block) s'.block) (ap (λ n. nat_eq n number) here.0 ∙ nat_itself number) ∙ bytes-back) i))
                 ∙ ap (option_map stand) (sym here.2)
-            | inr other ↦ ap (option_map (content_before c q)) other.1 ∙ elsewhere (slot_at slots q) other.0
+            | inr other ↦ ap (option_map (content_before c q)) other.1 ∙ same-content c q (slot_at slots q) (λ bytes. ap (λ t. cond t (with_old os items bytes) bytes) other.0)
           ]
-        where
-          elsewhere : (o : Option Slot) → nat_eq q number ≡ false → option_map (content_before c q) o ≡ option_map stand o
-          elsewhere None e = refl
-          elsewhere (Some x) e = ap (λ t. Some (x.descr, x.items, cond t (with_old os items x.block) x.block)) e
 
       goes : GoBack over.target items s'
       goes = record {

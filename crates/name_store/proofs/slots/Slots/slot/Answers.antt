@@ -1,7 +1,6 @@
 use Rattle.std.proofs.Common.{◌∙◌, sym, ap, is_some, arith}
 use Rattle.name_store.proofs.Words.{option_copied}
-use Rattle.name_store.proofs.SlotLaws.{slot_at-get_or}
-use Rattle.name_store.proofs.StateLaws.{occupied-within}
+use Rattle.name_store.proofs.SlotLaws.{occupied-within, slot_at-get_or}
 use Rattle.name_store.proofs.slots.Slots.slot.Goals as goal
 
 pub index-requires : goal.index-requires
