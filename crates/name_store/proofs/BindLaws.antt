@@ -1,6 +1,6 @@
 -- Binding a name, and keeping the change.
 use Rattle.std.proofs.Common.{◌≡◌, ◌+◌, ◌≤◌, ℕ, Bool, true, false, List, [], ◌∷◌, ◌++◌, length, map, min, refl, sym, ap, subst, ◌∙◌, cond, Option, Some, None, is_some, IfSome, Result, Ok, Err, IsOk, IfOk, OnOk, OnErr, nat_eq, arith, inl, inr}
-use Rattle.name_store.proofs.Words.{or_cases, AllByRecursion, list_any, lookup, option_map, nat_cmp_total, get, retain_keys, get-insert, get-retain_keys, same_map, nat_cmp-IsAntisymmetric, eqb-true, All-from_recursion, recursion_from_All, item_size, buffer, keep_last, insert_entry, Layout, count, Owned, Ring, find_array, put_array, without, is_in_use, has_room_for, keeping, Binds, IsUnused, own_array, own_buffer, Holds, IsSound, LiesAt, IsUndoable, one_at, users_of, users_at, users_in, found_at, pins, all_pins, Names, names_before, past_buffers, past_buffer, kept_states, Array, Buffer, State, array_at, named_array, buffer_in, slot_at, present, state_of, IsViewIn, MayBind, Bound, Fresh, Change, Bind, Entry, Slot, stand, Adds, IsOf, Lodges, Rebinds}
+use Rattle.name_store.proofs.Words.{none-some, or_cases, AllByRecursion, list_any, lookup, option_map, nat_cmp_total, get, retain_keys, get-insert, get-retain_keys, same_map, nat_cmp-IsAntisymmetric, eqb-true, All-from_recursion, recursion_from_All, item_size, buffer, keep_last, insert_entry, Layout, count, Owned, Ring, find_array, put_array, without, is_in_use, has_room_for, keeping, Binds, IsUnused, own_array, own_buffer, Holds, IsSound, LiesAt, IsUndoable, one_at, users_of, users_at, users_in, found_at, pins, all_pins, Names, names_before, past_buffers, past_buffer, kept_states, Array, State, array_at, named_array, buffer_in, slot_at, present, state_of, IsViewIn, MayBind, Bound, Fresh, Change, Bind, Entry, Slot, stand, Adds, IsOf, Lodges, Rebinds}
 use Rattle.std.specs.FinMap.{insert}
 use Rattle.name_store.specs.declared.bound.Bound.TheVariants.{View}
 use Rattle.name_store.proofs.FreshLaws.{fresh-lies, fresh-array_at, fresh-buffer}
@@ -8,7 +8,7 @@ use Rattle.name_store.proofs.HeldLaws.{one-when}
 use Rattle.name_store.proofs.KeepLaws.{keep-sound, keep-state}
 use Rattle.name_store.proofs.NameLaws.{TestsName, find-lookup, put-insert, all-both, all-insert, all-lookup, used-back-put, without-put, put-put, nat_itself}
 use Rattle.name_store.proofs.Needs.{needs, is_needed, occupied, number_of, users-put, made-held, kept-counted}
-use Rattle.name_store.proofs.PastLaws.{Alike, alike-shape, past-alike, lies-shaped, Restored, same-buffers, kept-none, kept-some, Slots}
+use Rattle.name_store.proofs.PastLaws.{Alike, none-either, alike-shape, past-alike, lies-shaped, Restored, same-buffers, kept-none, kept-some, Slots}
 use Rattle.name_store.proofs.SlotLaws.{tests_agree, get-past, get-buffers}
 use Rattle.name_store.proofs.StateLaws.{Freed, few-bound, lies-there}
 use Rattle.name_store.proofs.UnbindLaws.{same-content, fewer-buffers}
@@ -224,9 +224,6 @@ module _ (es : List (List ℕ × Entry)) (slots : Slots) (ring : Ring Change) (s
     binds : Binds old name bound (state_of es' after ring')
     binds = by bound r.lodges.is_of
       where
-        some-none : (b : Buffer) → Some b ≡ None → ⊥
-        some-none b h = cc
-
         least : (m : ℕ) → is_some (slot_at slots m) ≡ true → IsUnused old m → ⊥
         least m there free = at (slot_at slots m) refl there
           where
@@ -234,13 +231,9 @@ module _ (es : List (List ℕ × Entry)) (slots : Slots) (ring : Ring Change) (s
             at None e h = let no : ⊥ = cc in no
             at (Some s) e h =
                 elim (or_cases (is_in_use names m) (list_any (needs m) ring.items) (sym (occupied es slots ring spare sound m) ∙ there)) [
-                  | inl used ↦ some-none (buffer_in s) (sym (get-buffers es slots m ∙ λ i. cond (used i) (option_map buffer_in (e i)) None) ∙ free.unused)
+                  | inl used ↦ none-some (buffer_in s) (sym free.unused ∙ (get-buffers es slots m ∙ λ i. cond (used i) (option_map buffer_in (e i)) None))
                   | inr others ↦ kept-some ring.items names slots m s e sound.undoable others (recursion_from_All (λ state. get state.1 m ≡ None) (kept_states ring.items names slots) free.unkept)
                 ]
-
-        none-either : (t : Bool) → cond {A = Option Buffer} t None None ≡ None
-        none-either true = refl
-        none-either false = refl
 
         by : (b : Bound) → IsOf es slots b r.entry now → Binds old name b (state_of es' after ring')
         by (Fresh o) of-it =

@@ -1,6 +1,6 @@
 -- The kept states after a change is kept, undone or forgotten.
 use Rattle.std.proofs.Common.{◌≡◌, ◌+◌, ◌*◌, ◌≤◌, ℕ, zero, suc, Bool, true, false, List, [], ◌∷◌, ◌++◌, length, drop, refl, sym, ap, subst, ◌∙◌, cond, ◌||◌, Option, Some, None, All, ◌⊎◌, inl, inr}
-use Rattle.name_store.proofs.Words.{or_cases, or_left, or_right, AllByRecursion, list_any, option_map, nat_cmp_total, get, same_map, nat_cmp-IsAntisymmetric, eqb-true, Descr, items_in, item_size, Buffer, put_array, is_in_use, LiesAt, GoBackAt, IsUndoable, AreUndoable, Names, names_before, bytes_before, past_names, past_bytes, past_buffer, past_buffers, kept_states, target_offsets, array_at, slot_at, Change, Bind, Unbind, Write, Entry, OldItems, Slot, Target, stand}
+use Rattle.name_store.proofs.Words.{none-some, or_cases, or_left, or_right, AllByRecursion, list_any, option_map, nat_cmp_total, get, same_map, nat_cmp-IsAntisymmetric, eqb-true, Descr, items_in, item_size, Buffer, put_array, is_in_use, LiesAt, GoBackAt, IsUndoable, AreUndoable, Names, names_before, bytes_before, past_names, past_bytes, past_buffer, past_buffers, kept_states, target_offsets, array_at, slot_at, Change, Bind, Unbind, Write, Entry, OldItems, Slot, Target, stand}
 use Rattle.name_store.proofs.LaidLaws.{laid-same}
 use Rattle.name_store.proofs.NameLaws.{used-back-put, used-back-without, used-back-insert, used-put, used-insert, nat_itself}
 use Rattle.name_store.proofs.Needs.{needs, is_needed}
@@ -199,16 +199,16 @@ undoable-drop (suc n) (c ∷ cs) names slots can = undoable-drop n cs names slot
 
 -- Numbers of buffers
 
+pub none-either : (t : Bool) → cond {A = Option Buffer} t None None ≡ None
+none-either true = refl
+none-either false = refl
+
 -- the number of a free slot is in no kept state
 pub kept-none : (cs : List Change) (names : Names) (slots : Slots) (q : ℕ) → slot_at slots q ≡ None → AllByRecursion (λ state. get state.1 q ≡ None) (kept_states cs names slots)
 kept-none [] names slots q free = tt
 kept-none (c ∷ cs) names slots q free =
     let past : Names = past_names (c ∷ cs) names in
-    (get-past (c ∷ cs) past slots q ∙ ap (λ o. cond (is_in_use past q) (option_map (past_buffer (c ∷ cs) q) o) None) free ∙ none (is_in_use past q), kept-none cs names slots q free)
-  where
-    none : (t : Bool) → cond {A = Option Buffer} t None None ≡ None
-    none true = refl
-    none false = refl
+    (get-past (c ∷ cs) past slots q ∙ ap (λ o. cond (is_in_use past q) (option_map (past_buffer (c ∷ cs) q) o) None) free ∙ none-either (is_in_use past q), kept-none cs names slots q free)
 
 -- a buffer that a change needs was in use before the change
 pub needs-used : (c : Change) (names : Names) (slots : Slots) (q : ℕ) → IsUndoable c names slots → needs q c ≡ true → is_in_use (names_before c names) q ≡ true
@@ -226,10 +226,6 @@ kept-some (c ∷ cs) names slots q s there can needed none =
           let past : Names = past_names (c ∷ cs) names in
           let used : is_in_use past q ≡ true = needs-used c (past_names cs names) slots q can.1 own in
           let is : get (past_buffers (c ∷ cs) past slots) q ≡ Some (past_buffer (c ∷ cs) q s) = get-past (c ∷ cs) past slots q ∙ (λ i. cond (used i) (option_map (past_buffer (c ∷ cs) q) (there i)) None) in
-          let no : Some (past_buffer (c ∷ cs) q s) ≡ None = sym is ∙ none.0 in
-          some-none (past_buffer (c ∷ cs) q s) no
+          none-some (past_buffer (c ∷ cs) q s) (sym none.0 ∙ is)
       | inr others ↦ kept-some cs names slots q s there can.2 others none.1
     ]
-  where
-    some-none : (b : Buffer) → Some b ≡ None → ⊥
-    some-none b h = cc

@@ -1,11 +1,11 @@
 -- Items that are written to a slot that was borrowed.
-use Rattle.std.proofs.Common.{◌≡◌, ◌+◌, ◌*◌, ◌≤◌, ◌<◌, ℕ, zero, suc, true, false, List, [], ◌∷◌, length, refl, sym, ap, subst, ◌∙◌, cond, Option, Some, nat_eq, get_or, slice_set, All, Result, Ok, Err, IfOk, IfErr, None}
-use Rattle.name_store.proofs.Words.{AllByRecursion, ArePaired, option_map, eqb-true, recursion_from_All, same_Some, item_size, items_at, Layout, multiples, offsets, Fits, offsets_within, Owned, users_of, users_at, target_offsets, slot_at, Slot, Home, Source, One, Block, Target, IsPacked, HasNew, stand, AreSame, AreItems, CanPut, CanWrite, Puts, block_from, parts_of, with_source, without_slot}
+use Rattle.std.proofs.Common.{replicate, ◌≡◌, ◌+◌, ◌*◌, ◌≤◌, ◌<◌, ℕ, zero, suc, true, false, List, [], ◌∷◌, length, refl, sym, ap, subst, ◌∙◌, cond, Option, Some, nat_eq, get_or, slice_set, All, Result, Ok, Err, IfOk, IfErr, None}
+use Rattle.name_store.proofs.Words.{All-replicate, AllByRecursion, ArePaired, option_map, eqb-true, recursion_from_All, same_Some, item_size, items_at, Layout, multiples, offsets, Fits, offsets_within, Owned, users_of, users_at, target_offsets, slot_at, Slot, Home, Source, One, Block, Target, IsPacked, HasNew, stand, AreSame, AreItems, CanPut, CanWrite, Puts, block_from, parts_of, with_source, without_slot}
 use Rattle.name_store.specs.declared.write.Source.TheVariants.{Buffer}
 use Rattle.name_store.proofs.LaidLaws.{offsets-within}
 use Rattle.name_store.proofs.RestoreLaws.{length-with}
 use Rattle.name_store.proofs.SlotLaws.{slot_at-get_or, slot_at-set, slot_at-within}
-use Rattle.name_store.proofs.SourceLaws.{all-replicated, items-whole}
+use Rattle.name_store.proofs.SourceLaws.{items-whole}
 
 pub lent-new : (slots : List (Option Slot)) (number : ℕ) (was now old : Slot) (bytes : Slot → List ℕ) → number < length slots → slot_at slots number ≡ Some was → now.descr ≡ was.descr → now.items ≡ was.items → now.users ≡ was.users → now.block ≡ bytes was → slot_at slots number ≡ Some old →
     HasNew slots number old (bytes old) (slice_set slots number (Some now))
@@ -89,7 +89,7 @@ module _ (others : List (Option Slot)) (width : ℕ) (block : List ℕ) (n numbe
 
 -- each item has `width` bytes
 pub parts-whole : (others : List (Option Slot)) (width : ℕ) (block : List ℕ) (n : ℕ) (source : Source) → AreItems others width block n source → AllByRecursion (λ part. length part ≡ width) (parts_of others width block n source)
-parts-whole others width block n (One item) are = all-replicated (λ part. length part ≡ width) n item.items are
+parts-whole others width block n (One item) are = recursion_from_All (λ part. length part ≡ width) (replicate n item.items) (All-replicate (λ part. length part ≡ width) n item.items are)
 parts-whole others width block n (Block owned) are = items-whole (offsets owned.layout) width owned.block (offsets-within owned.layout (length owned.block) width (subst (Fits owned.layout (length owned.block)) are.0 owned.fills_block.fits))
 parts-whole others width block n (Buffer number layout) are =
     let from = block_from (slot_at others number) block in items-whole (offsets layout) width from (offsets-within layout (length from) width are.1)

@@ -7,10 +7,6 @@ pub put_each-items : (os item block : List ℕ) → put_each os item block ≡ w
 put_each-items [] item block = refl
 put_each-items (o ∷ os) item block = put_each-items os item (put o item block)
 
-pub all-replicated : (P : List ℕ → Type 0) (n : ℕ) (item : List ℕ) → P item → AllByRecursion P (replicate n item)
-all-replicated P zero item holds = tt
-all-replicated P (suc n) item holds = (holds, all-replicated P n item holds)
-
 pub map-replicated : (f : List ℕ → List LeafValue) (n : ℕ) (item : List ℕ) → map f (replicate n item) ≡ replicate n (f item)
 map-replicated f zero item = refl
 map-replicated f (suc n) item = ap (λ rest. f item ∷ rest) (map-replicated f n item)

@@ -9,10 +9,6 @@ use Rattle.name_store.proofs.StateLaws.{freed-none}
 use Rattle.name_store.proofs.UnbindLaws.{same-content}
 use Rattle.name_store.proofs.UndoLaws.{undoes, popped}
 
-goes-there : (target : Target) (items : OldItems) (o : Option Slot) → GoBackAt target items o → is_some o ≡ true
-goes-there target items None nothing = absurd nothing
-goes-there target items (Some s) goes = refl
-
 -- Old items are written back.
 module _ (es : List (List ℕ × Entry)) (slots : Slots) (ring : Ring Change) (spare : ℕ) (number : ℕ) (target : Target) (items : OldItems) (sound : IsSound es slots (buffer (ring.items ++ Write number target items ∷ []) ring.capacity) spare) where
   abbrev wrote : Change
@@ -24,39 +20,41 @@ module _ (es : List (List ℕ × Entry)) (slots : Slots) (ring : Ring Change) (s
   pub goes-back : GoBackAt target items (slot_at slots number)
   goes-back = (popped es slots ring wrote spare sound).2.1
 
+  -- the slot that they go back to
+  was : (old : Slot) × (slot_at slots number ≡ Some old)
+  was = by (slot_at slots number) refl goes-back
+    where
+      by : (o : Option Slot) → slot_at slots number ≡ o → GoBackAt target items o → (old : Slot) × (slot_at slots number ≡ Some old)
+      by None there nothing = absurd nothing
+      by (Some old) there goes = (old, there)
+
   pub goes-some : is_some (slot_at slots number) ≡ true
-  goes-some = goes-there target items (slot_at slots number) goes-back
+  goes-some = ap is_some was.1
 
   pub goes-within : number < length slots
   goes-within = occupied-within slots number goes-some
 
   module _ (after : Slots) (done : (old : Slot) → slot_at slots number ≡ Some old → HasNew slots number old (back old) after) where
     restored : (q : ℕ) → Restored wrote q (slot_at slots q) (slot_at after q)
-    restored q = by (slot_at slots number) refl goes-back
-      where
-        by : (o : Option Slot) → slot_at slots number ≡ o → GoBackAt target items o → Restored wrote q (slot_at slots q) (slot_at after q)
-        by None there nothing = absurd nothing
-        by (Some old) there goes =
-            let h = done old there in
-            elim (nat_eq q number) as (λ t. nat_eq q number ≡ t → slot_at after q ≡ cond t (Some h.new) (slot_at slots q) → Restored wrote q (slot_at slots q) (slot_at after q)) [
-              | true ↦ λ same put.
-                  ap (option_map (content_before wrote q)) (ap (slot_at slots) (eqb-true q number same) ∙ there)
-                  ∙ ap (λ t. Some (old.descr, old.items, cond t (back old) old.block)) same
-                  ∙ (λ i. Some (sym h.rewritten.descr i, sym h.rewritten.items i, sym h.rewritten.block i))
-                  ∙ ap (option_map stand) (sym put)
-              | false ↦ λ other put. same-content wrote q (slot_at slots q) (λ bytes. ap (λ t. cond t (with_old (target_offsets target) items bytes) bytes) other) ∙ ap (option_map stand) (sym put)
-            ] refl (h.set q)
+    restored q =
+        let old : Slot = was.0 in
+        let there : slot_at slots number ≡ Some old = was.1 in
+        let h = done old there in
+        elim (nat_eq q number) as (λ t. nat_eq q number ≡ t → slot_at after q ≡ cond t (Some h.new) (slot_at slots q) → Restored wrote q (slot_at slots q) (slot_at after q)) [
+          | true ↦ λ same put.
+              ap (option_map (content_before wrote q)) (ap (slot_at slots) (eqb-true q number same) ∙ there)
+              ∙ ap (λ t. Some (old.descr, old.items, cond t (back old) old.block)) same
+              ∙ (λ i. Some (sym h.rewritten.descr i, sym h.rewritten.items i, sym h.rewritten.block i))
+              ∙ ap (option_map stand) (sym put)
+          | false ↦ λ other put. same-content wrote q (slot_at slots q) (λ bytes. ap (λ t. cond t (with_old (target_offsets target) items bytes) bytes) other) ∙ ap (option_map stand) (sym put)
+        ] refl (h.set q)
 
     lie : AllByRecursion (λ entry. LiesAt (slot_at after entry.1.number) entry.1) es
     lie = all-both (λ e. LiesAt (slot_at slots e.number) e) (λ e. LiesAt (slot_at slots e.number) e) (λ e. LiesAt (slot_at after e.number) e)
         (λ e there _. lies-shaped (slot_at after e.number) (slot_at slots e.number) e (sym (restored-shape wrote e.number (slot_at slots e.number) (slot_at after e.number) (restored e.number))) there) es sound.holds.lie sound.holds.lie
 
     users-same : (q : ℕ) → users_at after q ≡ users_at slots q
-    users-same q = by (slot_at slots number) refl goes-back
-      where
-        by : (o : Option Slot) → slot_at slots number ≡ o → GoBackAt target items o → users_at after q ≡ users_at slots q
-        by None there nothing = absurd nothing
-        by (Some old) there goes = new-users slots number old (back old) after there (done old there) q
+    users-same q = new-users slots number was.0 (back was.0) after was.1 (done was.0 was.1) q
 
     pub undo-write : Undoes es slots wrote es after ring spare
     undo-write = undoes es slots ring wrote spare sound es after after spare refl lie (λ q _. restored q) (freed-none after) (λ q. omega (arith, users-same q)) (omega arith)

@@ -46,10 +46,10 @@ pub use Rattle.std.proofs.lemmas.Bool.{and_parts, both_ways, cases_lt, eqb-false
 pub use Rattle.std.proofs.lemmas.Bool.Decides.{Decides-int_eq, same_from_decides}
 pub use Rattle.std.proofs.lemmas.Int.{ints}
 pub use Rattle.std.proofs.lemmas.List.{append-nil, drop-append-le, drop-drop, drop-map, drop-take, drop_all, drop_at, ext_get_or, get_or-drop, get_or-take, get_or_default, get_or_past, length-map, length-set, map-append, map-set, take-append-drop, take-append-le, take-take, take_at}
-pub use Rattle.std.proofs.lemmas.List.Elements.{All-contains, All-from_recursion, All-head, All-rest, All-tail, Contains-get_or, recursion_from_All}
+pub use Rattle.std.proofs.lemmas.List.Elements.{All-contains, All-from_recursion, All-head, All-replicate, All-rest, All-tail, Contains-get_or, recursion_from_All}
 pub use Rattle.std.proofs.lemmas.List.Folds.{list_any-append}
 pub use Rattle.std.proofs.lemmas.List.Sorted.{All-permutation, Contains-permutation, length_permutation}
-pub use Rattle.std.proofs.lemmas.Option.{IfSome_then, same_Some}
+pub use Rattle.std.proofs.lemmas.Option.{IfSome_then, none-some, same_Some}
 pub use Rattle.std.proofs.lemmas.Result.{IfErr-weaker, IfOk-at_ok, IfOk-weaker, err_from_is_err_and}
 pub use Rattle.std.proofs.lemmas.Slice.Eq.{bytes_eq-Decides, slice_eq-Decides}
 pub use Rattle.std.specs.Cmp.{eq_by_cmp_equiv, nat_cmp_total, nat_eq_equiv}
