@@ -1,24 +1,13 @@
 -- Looking up, putting and removing names in a table.
 use Rattle.std.proofs.Common.{◌≡◌, ◌+◌, ℕ, suc, Bool, true, false, List, [], ◌∷◌, take, drop, insert, map, refl, sym, ap, subst, ◌∙◌, cond, ◌||◌, not, Some, None, nat_eq, arith, ◌⊎◌, inl, inr}
-use Rattle.name_store.proofs.Words.{or_cases, or_left, or_right, AllByRecursion, list_any, position_or_len, take-append-drop, list_any-append, option_map, bytes_eq, nat_eq_equiv, bytes_eq-Decides, insert_entry, shift_remove_entry, lookup, keys_of, Array, find_array, put_array, without, is_in_use, array_at, named_array, Entry}
+use Rattle.name_store.proofs.Words.{or-false, same_from_decides, or_cases, or_left, or_right, AllByRecursion, list_any, position_or_len, take-append-drop, list_any-append, option_map, bytes_eq, nat_eq_equiv, bytes_eq-Decides, insert_entry, shift_remove_entry, lookup, keys_of, Array, find_array, put_array, without, is_in_use, array_at, named_array, Entry}
 
 pub bytes_eq-sym : (xs ys : List ℕ) → bytes_eq xs ys ≡ bytes_eq ys xs
 bytes_eq-sym xs ys =
-    elim (bytes_eq xs ys) as (λ t. bytes_eq xs ys ≡ t → t ≡ bytes_eq ys xs) [
-      | true ↦ λ e. sym ((bytes_eq-Decides ys xs).1 (sym ((bytes_eq-Decides xs ys).0 e)))
-      | false ↦ λ e. other (bytes_eq ys xs) refl e
-    ] refl
-  where
-    other : (u : Bool) → bytes_eq ys xs ≡ u → bytes_eq xs ys ≡ false → false ≡ bytes_eq ys xs
-    other true is differs = let wrong : true ≡ false = sym ((bytes_eq-Decides xs ys).1 (sym ((bytes_eq-Decides ys xs).0 is))) ∙ differs in cc
-    other false is differs = sym is
+    same_from_decides (bytes_eq xs ys) (bytes_eq ys xs) (bytes_eq-Decides xs ys) (λ is. sym ((bytes_eq-Decides ys xs).0 is), λ is. (bytes_eq-Decides ys xs).1 (sym is))
 
 pub nat_itself : (n : ℕ) → nat_eq n n ≡ true
 nat_itself n = (nat_eq_equiv).refl n
-
-pub or_none : (a : Bool) → (a || false) ≡ true → a ≡ true
-or_none true h = refl
-or_none false h = h
 
 -- the test of keys tells whether a key is this name
 abbrev pub TestsName : (List ℕ → Bool) → List ℕ → Type 0
@@ -111,7 +100,7 @@ lookup-used test es e was = all-lookup (λ x. is_in_use (map named_array es) x.n
 
 -- a buffer that is in use after an array is put or removed was in use before, or it is the array's buffer
 pub used-back-put : (names : List (List ℕ × Array)) (name : List ℕ) (array : Array) (q : ℕ) → is_in_use (put_array names name array) q ≡ true → (is_in_use names q ≡ true) ⊎ (nat_eq array.buffer q ≡ true)
-used-back-put [] name array q used = inr (or_none (nat_eq array.buffer q) used)
+used-back-put [] name array q used = inr (sym (or-false (nat_eq array.buffer q)) ∙ used)
 used-back-put (e ∷ names) name array q used =
     elim (bytes_eq e.0 name) as (λ t. is_in_use (cond t ((name, array) ∷ names) (e ∷ put_array names name array)) q ≡ true → (is_in_use (e ∷ names) q ≡ true) ⊎ (nat_eq array.buffer q ≡ true)) [
       | true ↦ λ h. elim (or_cases (nat_eq array.buffer q) (is_in_use names q) h) [ inl own ↦ inr own | inr later ↦ inl (or_right (nat_eq e.1.buffer q) (is_in_use names q) later) ]

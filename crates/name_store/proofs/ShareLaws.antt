@@ -1,6 +1,6 @@
 -- Arrays in one buffer share cells if and only if their items share a byte.
 use Rattle.std.proofs.Common.{◌≡◌, ◌+◌, ◌*◌, ◌<◌, ◌≤◌, ◌&&◌, ◌||◌, ◌⊎◌, inl, inr, ℕ, zero, suc, Bool, true, false, List, [], ◌∷◌, length, take, refl, sym, ap, subst, ◌∙◌, Some, nat_eq, nat_lt, arith, pos, ◌+ℤ◌, ◌≤ℤ◌}
-use Rattle.name_store.proofs.Words.{list_any, range_with_len, lookup, ints, eqb-true, eqb-false, ltb-true, ltb-false, lt-ltb, le-ltb, ne_eqb, cases_lt, and_parts, and-false, and-true, same_from_decides, Descr, item_size, leaves_of, leaves_in, fields, field_at, Layout, max_bytes, address, offsets, Fits, offsets_of, places_of, have_common_byte, mul-step, Buffer, buffer_of, share_cells, Holds, LiesIn, IsPathOf, descr_at, start_at, first_at, have_common, share_leaves, IsElementType, array_at, slot_at, present, Entry, Slot}
+use Rattle.name_store.proofs.Words.{list_any, range_with_len, lookup, ints, eqb-true, eqb-false, ltb-true, lt-ltb, le-ltb, ne_eqb, cases_lt, and_parts, and-false, and-true, same_from_decides, Descr, item_size, leaves_of, leaves_in, fields, field_at, Layout, max_bytes, address, offsets, Fits, offsets_of, places_of, have_common_byte, mul-step, Buffer, buffer_of, share_cells, Holds, LiesIn, IsPathOf, descr_at, start_at, first_at, have_common, share_leaves, IsElementType, array_at, slot_at, present, Entry, Slot}
 use Rattle.name_store.proofs.FieldSplits.{field-legal, field-before, field_leaves-before}
 use Rattle.name_store.proofs.NameLaws.{TestsName, lookup-used, nat_itself}
 use Rattle.name_store.proofs.PartLaws.{part-leaves, part-some, part-within, span-within}
@@ -10,14 +10,8 @@ use Rattle.name_store.proofs.PastLaws.{Slots}
 
 lt-same : (a b c d : ℕ) → (a < b → c < d) → (c < d → a < b) → nat_lt a b ≡ nat_lt c d
 lt-same a b c d there back =
-    elim (nat_lt c d) as (λ t. nat_lt c d ≡ t → nat_lt a b ≡ t) [
-      | true ↦ λ e. lt-ltb a b (back (ltb-true c d e))
-      | false ↦ λ e. past (cases_lt a b) (ltb-false c d e)
-    ] refl
-  where
-    past : (a < b) ⊎ (b ≤ a) → d ≤ c → nat_lt a b ≡ false
-    past (inl less) high = let low : c < d = there less in absurd (omega (arith, low, high))
-    past (inr more) high = le-ltb a b more
+    let here : (nat_lt a b ≡ true → a < b) × (a < b → nat_lt a b ≡ true) = (ltb-true a b, lt-ltb a b) in
+    same_from_decides (nat_lt a b) (nat_lt c d) here (λ is. back (ltb-true c d is), λ less. lt-ltb c d (there less))
 
 -- parts of two items share a byte if and only if they are in the same item and share a byte there
 same-part : (item start width other other_width p q : ℕ) → start + width ≤ item → other + other_width ≤ item →

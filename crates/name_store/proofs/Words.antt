@@ -37,7 +37,7 @@ pub use Rattle.name_store.specs.inside.Puts.{AreItems, CanPut, CanWrite, IsNear,
 pub use Rattle.name_store.specs.inside.Rebinds.{IsOf, Lodges, Rebinds}
 pub use Rattle.name_store.specs.inside.Undoes.{Undoes}
 pub use Rattle.raw_block.specs.declared.strided.StridedItems.{StridedItems}
-pub use Rattle.std.proofs.Math.Bool.{and-false, and-true}
+pub use Rattle.std.proofs.Math.Bool.{and-false, and-true, or-false}
 pub use Rattle.std.proofs.Math.Dec.{eqb-suc-suc, eqb-suc-zero, eqb-zero-suc}
 pub use Rattle.std.proofs.Math.ListN.{drop_of_length-le}
 pub use Rattle.std.proofs.Math.Nat.{mul-le-mul_left, mul-suc, suc-mul}
