@@ -3,9 +3,6 @@ use Rattle.std.proofs.Common.{◌≡◌, ◌≢◌, ◌+◌, ◌*◌, ◌/◌, �
 use Rattle.name_store.proofs.Words.{length-map, item_size, offsets, distance, places_of, LiesIn, start_at, array_at, Entry, Slot, offset-at}
 use Rattle.name_store.proofs.PartLaws.{part-some}
 
-no-distance : (a b : ℕ) → a ≡ b → distance a b ≡ 0
-no-distance a b same = omega (arith, same)
-
 pub no_place_twice : (s : Slot) (e : Entry) → LiesIn s e → IsTrue e.writable → (j k : ℕ) → j < k → k < length (array_at e).places → slice_index (array_at e).places j ≢ slice_index (array_at e).places k
 no_place_twice s e lies free j k before within same =
     let item : ℕ = item_size s.descr in
@@ -17,4 +14,5 @@ no_place_twice s e lies free j k before within same =
     let counted : length places ≡ length (offsets e.layout) = length-map (offsets e.layout) (λ offset. offset / e.item) in
     let inside : k < length places = within in
     let far = (lies.laid.nested free).apart j k before (omega (arith, inside, counted)) in
-    omega (arith, far, no-distance (slice_index (offsets e.layout) j) (slice_index (offsets e.layout) k) alike, part-some s.descr s.is_whole.legal e.path lies.laid.part)
+    let near : distance (slice_index (offsets e.layout) j) (slice_index (offsets e.layout) k) ≡ 0 = omega (arith, alike) in
+    omega (arith, far, near, part-some s.descr s.is_whole.legal e.path lies.laid.part)

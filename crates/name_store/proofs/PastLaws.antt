@@ -1,6 +1,6 @@
 -- The kept states after a change is kept, undone or forgotten.
 use Rattle.std.proofs.Common.{◌≡◌, ◌+◌, ◌*◌, ◌≤◌, ℕ, zero, suc, Bool, true, false, List, [], ◌∷◌, ◌++◌, length, drop, refl, sym, ap, subst, ◌∙◌, cond, ◌||◌, Option, Some, None, All, ◌⊎◌, inl, inr}
-use Rattle.name_store.proofs.Words.{none-some, or_cases, or_left, or_right, AllByRecursion, list_any, option_map, nat_cmp_total, get, same_map, nat_cmp-IsAntisymmetric, eqb-true, Descr, items_in, item_size, Buffer, put_array, is_in_use, LiesAt, GoBackAt, IsUndoable, AreUndoable, Names, names_before, bytes_before, past_names, past_bytes, past_buffer, past_buffers, kept_states, target_offsets, array_at, slot_at, Change, Bind, Unbind, Write, Entry, OldItems, Slot, Target, stand}
+use Rattle.name_store.proofs.Words.{same_Some, none-some, or_cases, or_left, or_right, AllByRecursion, list_any, option_map, nat_cmp_total, get, same_map, nat_cmp-IsAntisymmetric, eqb-true, Descr, items_in, item_size, Buffer, put_array, is_in_use, LiesAt, GoBackAt, IsUndoable, AreUndoable, Names, names_before, bytes_before, past_names, past_bytes, past_buffer, past_buffers, kept_states, target_offsets, array_at, slot_at, Change, Bind, Unbind, Write, Entry, OldItems, Slot, Target, stand}
 use Rattle.name_store.proofs.LaidLaws.{laid-same}
 use Rattle.name_store.proofs.NameLaws.{used-back-put, used-back-without, used-back-insert, used-put, used-insert, nat_itself}
 use Rattle.name_store.proofs.Needs.{needs, is_needed}
@@ -137,14 +137,11 @@ restored-shape c q = told (content_before c q) stand shape shape (λ t. (t.0, t.
 pub alike-shape : (now before : Option Slot) → Alike now before → SameShape now before
 alike-shape = told stand stand shape shape (λ t. (t.0, t.1)) (λ s. refl) (λ s. refl)
 
-pair-is : (s s' : Slot) → Some (shape s') ≡ Some (shape s) → shape s' ≡ shape s
-pair-is s s' h = cc
-
 pub lies-shaped : (now before : Option Slot) (e : Entry) → SameShape now before → LiesAt before e → LiesAt now e
 lies-shaped now None e same nothing = absurd nothing
 lies-shaped None (Some s) e same lies = let no : ⊥ = cc in absurd no
 lies-shaped (Some s') (Some s) e same lies =
-    let both = pair-is s s' same in
+    let both = same_Some (shape s') (shape s) same in
     record {
       item = lies.item ∙ ap item_size (ap (λ (p : Descr × ℕ). p.0) (sym both));
       laid = laid-same s.descr s'.descr s.items s'.items (array_at e) (array_at e) e.layout e.layout e.writable e.writable (ap (λ (p : Descr × ℕ). p.0) (sym both)) (ap (λ (p : Descr × ℕ). p.1) (sym both)) refl refl refl lies.laid;
@@ -154,7 +151,7 @@ goes-shaped : (target : Target) (items : OldItems) (now before : Option Slot) �
 goes-shaped target items now None same nothing = absurd nothing
 goes-shaped target items None (Some s) same goes = let no : ⊥ = cc in absurd no
 goes-shaped target items (Some s') (Some s) same goes =
-    let both = pair-is s s' same in
+    let both = same_Some (shape s') (shape s) same in
     record {
       inside = subst (λ (p : Descr × ℕ). All (λ offset. offset + items.width ≤ p.1 * item_size p.0) (target_offsets target)) (sym both) goes.inside;
       whole = goes.whole;
