@@ -1,5 +1,5 @@
 use Rattle.std.proofs.Common.{◌≡◌, ◌≤◌, ◌⊎◌, ◌++◌, ℕ, List, true, false, Ok, Err, inl, inr, refl, sym, ap, arith, codes}
-use Rattle.bench_engine.proofs.Words.{lt-ltb, common_steps, err_from_is_err_and, Refusal, UnknownName, OutOfMemory, State, is_bound, Delete, Undo, delete_outcome, undo_outcome, may_lack_memory, accepted_with, IsRefused}
+use Rattle.bench_engine.proofs.Words.{lt-ltb, common_steps, err_from_is_err_and, Refusal, UnknownName, OutOfMemory, State, is_bound, Ask, Delete, Undo, delete_outcome, question_outcome, undo_outcome, may_lack_memory, accepted_with, IsRefused}
 use Rattle.bench_engine.proofs.Steps.{carried, spare}
 use Rattle.bench_engine.proofs.engine.perform.Goals as goal
 
@@ -51,7 +51,9 @@ returns-in_ok-unbind-in-Delete g c =
     (any.0, any.1, rw e.0 (λ i. accepted_with (sym e.1 i) (sym told i))))
 
 pub returns-in-Ask : goal.returns-in-Ask
-returns-in-Ask g c = rw c.in-Ask.is (carried _ _ _ _ _ _ _ c.reply.ensures)
+returns-in-Ask g c =
+    let s = c.args.bench.now.state in
+    rw c.in-Ask.is (carried s s _ (may_lack_memory s (Ask c.in-Ask.question)) (λ choice. question_outcome s c.in-Ask.question) _ _ c.reply.ensures)
 
 pub returns-in-Save : goal.returns-in-Save
 returns-in-Save g c = rw c.in-Save.is c.save.ensures
