@@ -1,6 +1,6 @@
 -- Parts of runs as layouts of one axis, and the results on them.
 use Rattle.std.proofs.Common.{◌≡◌, ◌+◌, ◌*◌, ◌<◌, ◌≤◌, All, ℕ, pos, ◌+ℤ◌, ◌*ℤ◌, List, [], ◌∷◌, ◌++◌, map, length, append-nil, get_or, sym, ap, subst, ◌∙◌, arith, ◌≤ℤ◌}
-use Rattle.elementwise.proofs.Words.{take_all, ints, length-map, map-append, same_lists, get_or_default, All-cons, flat_map, ScalarDescr, *ℤ_comm, +ℤ_idr, *ℤ-zero, Descr, Scalar, LeafValue, Items, size, encode, decode, encode_item, decode_item, item_from, one-encoded, length-encode, run_front, Layout, Run, BeginsWithin, IsIndex, address_at, natural, position, place, position-add, rank, count, offsets, run_offsets, max_bytes, lie-within, run-ends, run-within, nth-offset, get_or-offsets, length-offsets, length-run_offsets, pairwise, value_in, cast_item, InRuns, Broadcast, Pairing, given, run_items, all_given, stretched, run_part, AreItems, left_of, right_of, target_of, gives, CanPair}
+use Rattle.elementwise.proofs.Words.{take_all, ints, length-map, map-append, same_lists, get_or_default, All-cons, flat_map, ScalarDescr, *ℤ_comm, +ℤ_idr, *ℤ-zero, Descr, Scalar, LeafValue, Items, size, encode, decode, encode_item, decode_item, item_from, one-encoded, length-encode, run_front, Layout, Run, BeginsWithin, IsIndex, address_at, natural, position, place, position-add, rank, count, offsets, run_offsets, max_bytes, lie-within, run-ends, run-within, nth-offset, get_or-offsets, length-offsets, length-run_offsets, pairwise, value_in, cast_item, InRuns, Broadcast, Pairing, given, run_items, all_given, items_stretched, run_part, AreItems, left_of, right_of, target_of, gives, CanPair}
 use Rattle.elementwise.proofs.ColumnLaws.{part-within, run-parts}
 use Rattle.elementwise.proofs.EncodedLaws.{items-append, no-items}
 use Rattle.elementwise.proofs.PairLaws.{length-pairwise, pairwise-append}
@@ -119,7 +119,7 @@ given-more p b run other k n lies lies' even low =
     ∙ pairwise-append give (run_items x (run_front k run)) (run_items y (run_front k other)) (run_items x (run_part run k n)) (run_items y (run_part other k n)) (many ∙ sym many')
 
 -- the items along that run, in the layout's own shape
-run-stretched : (x : Items) (run : Run) (shape : List ℕ) → run_offsets run ≡ offsets x.layout.now → x.layout.now.shape ≡ shape → run_items x run ≡ stretched x shape
+run-stretched : (x : Items) (run : Run) (shape : List ℕ) → run_offsets run ≡ offsets x.layout.now → x.layout.now.shape ≡ shape → run_items x run ≡ items_stretched x shape
 run-stretched x run shape same there = ap (map (item_from x.descr.now x.block.now)) same ∙ stretches-itself x shape there
 
 -- two such runs
@@ -130,5 +130,5 @@ module _ (r : InRuns) where
   pub many_right : r.right.count ≡ count r.both.shape.now
   many_right = count-run r.both.right.layout.now r.right r.also ∙ ap count r.other
 
-  pub runs_given : (p : Pairing) → all_given p r.both r.left r.right ≡ pairwise (given p r.both.left.descr.now r.both.right.descr.now) (stretched r.both.left r.both.shape.now) (stretched r.both.right r.both.shape.now)
+  pub runs_given : (p : Pairing) → all_given p r.both r.left r.right ≡ pairwise (given p r.both.left.descr.now r.both.right.descr.now) (items_stretched r.both.left r.both.shape.now) (items_stretched r.both.right r.both.shape.now)
   runs_given p = λ i. pairwise (given p r.both.left.descr.now r.both.right.descr.now) (run-stretched r.both.left r.left r.both.shape.now r.same r.shape i) (run-stretched r.both.right r.right r.both.shape.now r.also r.other i)

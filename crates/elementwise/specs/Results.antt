@@ -77,8 +77,8 @@ abbrev pub stretched_items : Descr → List ℕ → Layout → List ℕ → List
 stretched_items descr block layout shape = map (item_from descr block) (view_through (offsets layout) layout.shape shape (broadcast_index layout.shape))
 
 -- borrowed items, stretched to a shape
-abbrev pub stretched : Items → List ℕ → List (List LeafValue)
-stretched i shape = stretched_items i.descr.now i.block.now i.layout.now shape
+abbrev pub items_stretched : Items → List ℕ → List (List LeafValue)
+items_stretched i shape = stretched_items i.descr.now i.block.now i.layout.now shape
 
 -- `f` of the items at each position of two lists
 abbrev pub pairwise : {A B : Type 0} → (A → A → B) → List A → List A → List B

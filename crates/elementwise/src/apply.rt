@@ -1,6 +1,6 @@
 //! Operations on all items of arrays: operands are cast, stretched and combined.
 ghost use Rattle.std.specs.Prelude.{IfOk, IfSome, IsTrue, map, true, ◌≡◌, ◌≤◌};
-ghost use Rattle.elementwise.specs.Clauses.{GivesArray, can_cast, cast_item, binary_item, binary_result, pairwise, unary_item, unary_result, AreAlike, item_from, item_size, items, offsets, AreCastable, IsCombined, stretched};
+ghost use Rattle.elementwise.specs.Clauses.{GivesArray, can_cast, cast_item, binary_item, binary_result, pairwise, unary_item, unary_result, AreAlike, item_from, item_size, items, offsets, AreCastable, IsCombined, items_stretched};
 
 use crate::castable::keeps_items;
 use crate::casts::cast_items;
@@ -23,8 +23,8 @@ pub fn apply2(alloc: Global, op: BinOp, left: Items<'_>, right: Items<'_>) -> Re
     ensures { GivesArray
         (binary_result op left.entry.descr.now left.entry.layout.now.shape right.entry.descr.now
         right.entry.layout.now.shape)
-        (λ descr shape. pairwise (binary_item op descr) (stretched left.entry shape)
-        (stretched right.entry shape)) result }
+        (λ descr shape. pairwise (binary_item op descr) (items_stretched left.entry shape)
+        (items_stretched right.entry shape)) result }
 {
     let from = scalar_of(left.descr)?;
     let other = scalar_of(right.descr)?;

@@ -1,6 +1,6 @@
 //! Comparisons of all items of arrays.
 ghost use Rattle.std.specs.Prelude.{IfOk, length, ◌≡◌, ◌≤◌};
-ghost use Rattle.elementwise.specs.Clauses.{GivesArray, ScalarDescr, compared_item, compared_result, pairwise, Bytes, IsNumber, decode, max_bytes, size, AreCompared, AreComparedWith, AreComparable, IsComparing, stretched};
+ghost use Rattle.elementwise.specs.Clauses.{GivesArray, ScalarDescr, compared_item, compared_result, pairwise, Bytes, IsNumber, decode, max_bytes, size, AreCompared, AreComparedWith, AreComparable, IsComparing, items_stretched};
 
 use crate::apply::make_cast;
 use crate::byte_strings::trimmed_in;
@@ -178,8 +178,8 @@ pub fn compare(
     ensures { GivesArray
         (compared_result left.entry.descr.now left.entry.layout.now.shape right.entry.descr.now
         right.entry.layout.now.shape)
-        (λ _ shape. pairwise (compared_item comparison) (stretched left.entry shape)
-        (stretched right.entry shape)) result }
+        (λ _ shape. pairwise (compared_item comparison) (items_stretched left.entry shape)
+        (items_stretched right.entry shape)) result }
 {
     let from = scalar_of(left.descr)?;
     let other = scalar_of(right.descr)?;

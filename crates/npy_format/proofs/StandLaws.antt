@@ -37,63 +37,63 @@ module _ {toks : List Token} {v : Literal} {rest : List Token} (P : List Token �
 module _ {toks : List Token} {v : Literal} {rest : List Token} where
   pub text_is : (key : List ℕ) → Front toks v rest → is_string_token key (string_at toks) ≡ is_string key v
   text_is key = by_kind (λ toks v rest. is_string_token key (string_at toks) ≡ is_string key v)
-    (λ bytes. refl) (λ n. refl) (λ b. refl) refl (λ inside vs st. refl) (λ inside vs st. refl) (λ inside. refl)
+      (λ bytes. refl) (λ n. refl) (λ b. refl) refl (λ inside vs st. refl) (λ inside vs st. refl) (λ inside. refl)
 
   pub truth_is : Front toks v rest → truth_at toks ≡ truth_of v
   truth_is = by_kind (λ toks v rest. truth_at toks ≡ truth_of v)
-    (λ bytes. refl) (λ n. refl) (λ b. refl) refl (λ inside vs st. refl) (λ inside vs st. refl) (λ inside. refl)
+      (λ bytes. refl) (λ n. refl) (λ b. refl) refl (λ inside vs st. refl) (λ inside vs st. refl) (λ inside. refl)
 
   pub pad_is : (p : Partial) → Front toks v rest → pad_at p (string_at toks) ≡ pad_in p v
   pad_is p = by_kind (λ toks v rest. pad_at p (string_at toks) ≡ pad_in p v)
-    (λ bytes. refl) (λ n. refl) (λ b. refl) refl (λ inside vs st. refl) (λ inside vs st. refl) (λ inside. refl)
+      (λ bytes. refl) (λ n. refl) (λ b. refl) refl (λ inside vs st. refl) (λ inside vs st. refl) (λ inside. refl)
 
   -- ---- types
 
   pub string_stands : (found : List ℕ × List Token) → Some found ≡ string_at toks → Front toks v rest → v ≡ Plain (Text found.0)
   string_stands found is front = by_kind (λ toks v rest. Some found ≡ string_at toks → v ≡ Plain (Text found.0))
-    (λ bytes is. let same : found ≡ (bytes, rest) = cc in ap (λ (f : List ℕ × List Token). Plain (Text f.0)) (sym same))
-    (λ n is. cc) (λ b is. cc) (λ is. cc) (λ inside vs st is. cc) (λ inside vs st is. cc) (λ inside is. cc) front is
+      (λ bytes is. let same : found ≡ (bytes, rest) = cc in ap (λ (f : List ℕ × List Token). Plain (Text f.0)) (sym same))
+      (λ n is. cc) (λ b is. cc) (λ is. cc) (λ inside vs st is. cc) (λ inside vs st is. cc) (λ inside is. cc) front is
 
   pub list_stands : (inside : List Token) → Some inside ≡ symbol_token_at 91 toks → Front toks v rest → (vs : List Literal) × (v ≡ Row Square (all_listed_values vs)) × HasValues 93 inside vs
   list_stands inside is front = by_kind (λ toks v rest. Some inside ≡ symbol_token_at 91 toks → (vs : List Literal) × (v ≡ Row Square (all_listed_values vs)) × HasValues 93 inside vs)
-    (λ bytes is. cc) (λ n is. cc) (λ b is. cc) (λ is. cc) (λ inside' vs st is. cc)
-    (λ inside' vs st is. let same : inside ≡ inside' = cc in (vs, refl, subst (λ (l : List Token). HasValues 93 l vs) (sym same) st))
-    (λ inside' is. cc) front is
+      (λ bytes is. cc) (λ n is. cc) (λ b is. cc) (λ is. cc) (λ inside' vs st is. cc)
+      (λ inside' vs st is. let same : inside ≡ inside' = cc in (vs, refl, subst (λ (l : List Token). HasValues 93 l vs) (sym same) st))
+      (λ inside' is. cc) front is
 
   pub tuple_stands : (inside : List Token) → Some inside ≡ symbol_token_at 40 toks → Front toks v rest → (vs : List Literal) × (v ≡ Row Round (all_listed_values vs)) × HasValues 41 inside vs
   tuple_stands inside is front = by_kind (λ toks v rest. Some inside ≡ symbol_token_at 40 toks → (vs : List Literal) × (v ≡ Row Round (all_listed_values vs)) × HasValues 41 inside vs)
-    (λ bytes is. cc) (λ n is. cc) (λ b is. cc) (λ is. cc)
-    (λ inside' vs st is. let same : inside ≡ inside' = cc in (vs, refl, subst (λ (l : List Token). HasValues 41 l vs) (sym same) st))
-    (λ inside' vs st is. cc) (λ inside' is. cc) front is
+      (λ bytes is. cc) (λ n is. cc) (λ b is. cc) (λ is. cc)
+      (λ inside' vs st is. let same : inside ≡ inside' = cc in (vs, refl, subst (λ (l : List Token). HasValues 41 l vs) (sym same) st))
+      (λ inside' vs st is. cc) (λ inside' is. cc) front is
 
   pub no_type : None ≡ string_at toks → None ≡ symbol_token_at 91 toks → Front toks v rest → ((within : List Literal → Result Structure Refusal) → type_in within v ≡ Err DescriptorLeftOut) × (descr_in v ≡ Err BadDescriptor)
   no_type no_text no_list front = by_kind (λ toks v rest. None ≡ string_at toks → None ≡ symbol_token_at 91 toks → ((within : List Literal → Result Structure Refusal) → type_in within v ≡ Err DescriptorLeftOut) × (descr_in v ≡ Err BadDescriptor))
-    (λ bytes no_text no_list. cc) (λ n no_text no_list. (λ within. refl, refl)) (λ b no_text no_list. (λ within. refl, refl)) (λ no_text no_list. (λ within. refl, refl))
-    (λ inside vs st no_text no_list. (λ within. refl, refl)) (λ inside vs st no_text no_list. cc) (λ inside no_text no_list. (λ within. refl, refl)) front no_text no_list
+      (λ bytes no_text no_list. cc) (λ n no_text no_list. (λ within. refl, refl)) (λ b no_text no_list. (λ within. refl, refl)) (λ no_text no_list. (λ within. refl, refl))
+      (λ inside vs st no_text no_list. (λ within. refl, refl)) (λ inside vs st no_text no_list. cc) (λ inside no_text no_list. (λ within. refl, refl)) front no_text no_list
 
   pub no_tuple : None ≡ symbol_token_at 40 toks → Front toks v rest → (entry_parts v ≡ None) × (lengths_of v ≡ Err BadHeader)
   no_tuple none front = by_kind (λ toks v rest. None ≡ symbol_token_at 40 toks → (entry_parts v ≡ None) × (lengths_of v ≡ Err BadHeader))
-    (λ bytes none. (refl, refl)) (λ n none. (refl, refl)) (λ b none. (refl, refl)) (λ none. (refl, refl))
-    (λ inside vs st none. cc) (λ inside vs st none. (refl, refl)) (λ inside none. (refl, refl)) front none
+      (λ bytes none. (refl, refl)) (λ n none. (refl, refl)) (λ b none. (refl, refl)) (λ none. (refl, refl))
+      (λ inside vs st none. cc) (λ inside vs st none. (refl, refl)) (λ inside none. (refl, refl)) front none
 
   -- No value begins with a closing round bracket.
   pub no_end : Front toks v rest → None ≡ symbol_token_at 41 toks
   no_end = by_kind (λ toks v rest. None ≡ symbol_token_at 41 toks)
-    (λ bytes. refl) (λ n. refl) (λ b. refl) refl (λ inside vs st. refl) (λ inside vs st. refl) (λ inside. refl)
+      (λ bytes. refl) (λ n. refl) (λ b. refl) refl (λ inside vs st. refl) (λ inside vs st. refl) (λ inside. refl)
 
   pub no_name : None ≡ string_at toks → (others : List Literal) → Front toks v rest → name_and_type (v ∷ others) ≡ None
   no_name none others front = by_kind (λ toks v rest. None ≡ string_at toks → name_and_type (v ∷ others) ≡ None)
-    (λ bytes none. cc) (λ n none. refl) (λ b none. refl) (λ none. refl) (λ inside vs st none. refl) (λ inside vs st none. refl) (λ inside none. refl) front none
+      (λ bytes none. cc) (λ n none. refl) (λ b none. refl) (λ none. refl) (λ inside vs st none. refl) (λ inside vs st none. refl) (λ inside none. refl) front none
 
   pub no_integer : None ≡ integer_at toks → (others : List Literal) → Front toks v rest → integers_of (v ∷ others) ≡ Err BadHeader
   no_integer none others front = by_kind (λ toks v rest. None ≡ integer_at toks → integers_of (v ∷ others) ≡ Err BadHeader)
-    (λ bytes none. refl) (λ n none. cc) (λ b none. refl) (λ none. refl) (λ inside vs st none. refl) (λ inside vs st none. refl) (λ inside none. refl) front none
+      (λ bytes none. refl) (λ n none. cc) (λ b none. refl) (λ none. refl) (λ inside vs st none. refl) (λ inside vs st none. refl) (λ inside none. refl) front none
 
   pub integer_stands : (found : ℕ × List Token) → Some found ≡ integer_at toks → Front toks v rest → (v ≡ Plain (Integer found.0)) × (rest ≡ found.1) × (None ≡ symbol_token_at 41 toks)
   integer_stands found is front = by_kind (λ toks v rest. Some found ≡ integer_at toks → (v ≡ Plain (Integer found.0)) × (rest ≡ found.1) × (None ≡ symbol_token_at 41 toks))
-    (λ bytes is. cc)
-    (λ n is. let same : found ≡ (n, rest) = cc in (ap (λ (f : ℕ × List Token). Plain (Integer f.0)) (sym same), ap (λ (f : ℕ × List Token). f.1) (sym same), refl))
-    (λ b is. cc) (λ is. cc) (λ inside vs st is. cc) (λ inside vs st is. cc) (λ inside is. cc) front is
+      (λ bytes is. cc)
+      (λ n is. let same : found ≡ (n, rest) = cc in (ap (λ (f : ℕ × List Token). Plain (Integer f.0)) (sym same), ap (λ (f : ℕ × List Token). f.1) (sym same), refl))
+      (λ b is. cc) (λ is. cc) (λ inside vs st is. cc) (λ inside vs st is. cc) (λ inside is. cc) front is
 
 -- ---- entries
 

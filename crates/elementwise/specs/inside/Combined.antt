@@ -2,7 +2,7 @@
 use Rattle.std.specs.Prelude.{◌≡◌, ◌≤◌, true, List, ◌∷◌, [], map}
 use Rattle.elementwise.specs.Words.{Descr, LeafValue, Comparison, size, item_from, Items, Run, offsets, run_offsets, Owned, ScalarDescr, BoolScalar}
 use Rattle.elementwise.specs.Casts.{can_cast, cast_item}
-use Rattle.elementwise.specs.Results.{compared_item, pairwise, stretched, value_in}
+use Rattle.elementwise.specs.Results.{compared_item, pairwise, items_stretched, value_in}
 use Rattle.elementwise.specs.declared.operands.Broadcast.{Broadcast}
 use Rattle.elementwise.specs.declared.pairing.Pairing.{Pairing}
 use Rattle.elementwise.specs.inside.Made.{IsMade}
@@ -29,11 +29,11 @@ pub record AreCastable (p : Pairing) (b : Broadcast) : Type 0 where
 
 -- an array of the results on all items, which are stretched to the common shape
 abbrev pub IsCombined : Pairing → Broadcast → Owned → Type 0
-IsCombined p b = IsMade (ScalarDescr (target_of p)) b.shape.now (pairwise (given p b.left.descr.now b.right.descr.now) (stretched b.left b.shape.now) (stretched b.right b.shape.now))
+IsCombined p b = IsMade (ScalarDescr (target_of p)) b.shape.now (pairwise (given p b.left.descr.now b.right.descr.now) (items_stretched b.left b.shape.now) (items_stretched b.right b.shape.now))
 
 -- the bools that a comparison gives on the items of two arrays
 abbrev pub AreCompared : Comparison → Broadcast → Owned → Type 0
-AreCompared comparison b = IsMade (ScalarDescr BoolScalar) b.shape.now (pairwise (compared_item comparison) (stretched b.left b.shape.now) (stretched b.right b.shape.now))
+AreCompared comparison b = IsMade (ScalarDescr BoolScalar) b.shape.now (pairwise (compared_item comparison) (items_stretched b.left b.shape.now) (items_stretched b.right b.shape.now))
 
 -- the bools that a comparison gives on the items of an array and one value
 abbrev pub AreComparedWith : Comparison → Items → LeafValue → Owned → Type 0

@@ -1,5 +1,5 @@
 use Rattle.std.proofs.Common.{inl, inr, Ok, sym, ◌∙◌}
-use Rattle.elementwise.proofs.Words.{ScalarDescr, number_size, little, stretched, is_scalar}
+use Rattle.elementwise.proofs.Words.{ScalarDescr, number_size, little, items_stretched, is_scalar}
 use Rattle.elementwise.proofs.WorkLaws.{number_small}
 use Rattle.elementwise.proofs.MadeLaws.{made-given, refused}
 use Rattle.elementwise.proofs.PromotedLaws.{promoted, native-little, number-read, can-number, left_refused, right_refused, promotion_refused, shapes_refused, all_given}
@@ -51,5 +51,5 @@ returns c =
     made-given (ScalarDescr (little read)) shape _ _ c.in_ok-make_cast.ensures _ _
     (all_given c.args.op x.descr.now x.layout.now.shape y.descr.now y.layout.now.shape c.in_ok-from.from c.in_ok-other.other c.in_ok-scalar.scalar shape c.in_ok-from.ensures c.in_ok-other.ensures c.in_ok-scalar.ensures c.in_ok-shape.ensures.value
     ∙ λ i. Ok (ScalarDescr (sym c.read_as.ensures i), shape))
-    (combined c.args.op read x.descr.now y.descr.now (stretched x shape) (stretched y shape) number
+    (combined c.args.op read x.descr.now y.descr.now (items_stretched x shape) (items_stretched y shape) number
     (can-number x.descr.now c.in_ok-from.from read (is_scalar x.descr.now c.in_ok-from.from c.in_ok-from.ensures) is.left number) (can-number y.descr.now c.in_ok-other.other read (is_scalar y.descr.now c.in_ok-other.other c.in_ok-other.ensures) is.right number))

@@ -1,5 +1,5 @@
 use Rattle.std.proofs.Common.{◌≡◌, ◌*◌, ◌≤◌, List, [], ◌∷◌, map, refl, ap, ◌∙◌, arith}
-use Rattle.elementwise.proofs.Words.{mul-le-mul_left, ScalarDescr, LeafValue, count, size, cast_item, pairwise, value_in, stretched, left_of, right_of, target_of, gives}
+use Rattle.elementwise.proofs.Words.{mul-le-mul_left, ScalarDescr, LeafValue, count, size, cast_item, pairwise, value_in, items_stretched, left_of, right_of, target_of, gives}
 use Rattle.elementwise.proofs.MadeLaws.{made-in}
 use Rattle.elementwise.proofs.PairLaws.{pairwise-map}
 use Rattle.elementwise.proofs.StretchedLaws.{stretches-itself}
@@ -29,5 +29,5 @@ returns-then-stays-2 c =
     let second = c.if-stays-2.ensures.items refl ∙ λ i. map (cast_item y.descr.now (ScalarDescr (c.right.ensures i))) (stretches-itself y shape (c.if-stays-2.ensures.shape refl) i) in
     made-in (ScalarDescr (target_of p)) x.layout.now.shape shape _ _ c.made.result (c.if-stays.ensures.shape refl)
     ((λ i. pairwise make (first i) (second i))
-    ∙ pairwise-map make (cast_item x.descr.now (ScalarDescr (left_of p))) (cast_item y.descr.now (ScalarDescr (right_of p))) (stretched x shape) (stretched y shape))
+    ∙ pairwise-map make (cast_item x.descr.now (ScalarDescr (left_of p))) (cast_item y.descr.now (ScalarDescr (right_of p))) (items_stretched x shape) (items_stretched y shape))
     c.made.ensures

@@ -1,5 +1,5 @@
 use Rattle.std.proofs.Common.{◌≤◌, [], ◌∷◌, sym, subst, ◌∙◌, IfOk, rules}
-use Rattle.elementwise.proofs.Words.{ScalarDescr, Scalar, size, number_size, IsNumber, BoolScalar, cast_item, pairwise, value_in, stretched, IsMade, left_of, right_of, gives}
+use Rattle.elementwise.proofs.Words.{ScalarDescr, Scalar, size, number_size, IsNumber, BoolScalar, cast_item, pairwise, value_in, items_stretched, IsMade, left_of, right_of, gives}
 use Rattle.elementwise.proofs.WorkLaws.{bool_small}
 use Rattle.elementwise.proofs.PromotedLaws.{can-number}
 use Rattle.elementwise.proofs.HeldLaws.{number-no_text, compared_all}
@@ -31,8 +31,8 @@ returns-in_default-2 c =
     let shape = c.args.both.shape.now in
     let number : IsNumber s.left = search rules in
     let other : IsNumber s.right = search rules in
-    let given = pairwise (λ u v. gives p (value_in (cast_item x.descr.now (ScalarDescr (left_of p)) u)) (value_in (cast_item y.descr.now (ScalarDescr (right_of p)) v)) ∷ []) (stretched x shape) (stretched y shape) in
+    let given = pairwise (λ u v. gives p (value_in (cast_item x.descr.now (ScalarDescr (left_of p)) u)) (value_in (cast_item y.descr.now (ScalarDescr (right_of p)) v)) ∷ []) (items_stretched x shape) (items_stretched y shape) in
     made-as (ScalarDescr BoolScalar) shape given _ c.make_cast.result
-    ((λ i. pairwise (λ u v. is.says (value_in (cast_item x.descr.now (ScalarDescr (left_of p)) u)) (value_in (cast_item y.descr.now (ScalarDescr (right_of p)) v)) i ∷ []) (stretched x shape) (stretched y shape))
+    ((λ i. pairwise (λ u v. is.says (value_in (cast_item x.descr.now (ScalarDescr (left_of p)) u)) (value_in (cast_item y.descr.now (ScalarDescr (right_of p)) v)) i ∷ []) (items_stretched x shape) (items_stretched y shape))
     ∙ compared_all c.args.comparison (left_of p) (right_of p) x.descr.now y.descr.now x.block.now y.block.now x.layout.now y.layout.now shape (s.left, s.is-0, number, is.left.1) (s.right, s.is-1, other, is.right.1) is.left.0 is.right.0 (rw c.bytes.ensures at c.note_slice.ensures) (rw c.bytes-in_default-2.ensures at c.note_slice-in_default-2.ensures))
     (subst (λ (s : Scalar). IfOk c.make_cast.result (IsMade (ScalarDescr s) shape given)) is.target c.make_cast.ensures)
