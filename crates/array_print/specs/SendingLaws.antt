@@ -1,7 +1,6 @@
 -- Laws of texts that are sent part by part.
 use Rattle.std.specs.Prelude.{◌≡◌, ℕ, List, [], ◌++◌, Option, drop, length, ◌-◌, ◌≤◌}
-use Rattle.std.proofs.Common.{Some, None, append_assoc, take, refl, ap, sym, ◌∙◌}
-use Rattle.elem_descr.specs.ListLaws.{slice-rest}
+use Rattle.std.proofs.Common.{Some, None, append_assoc, take, take_all, length-drop, arith, refl, ap, sym, ◌∙◌}
 use Rattle.array_print.specs.Words.{append-nil, take-append-drop, Appends}
 use Rattle.array_print.specs.Sending.{Sends}
 
@@ -15,8 +14,12 @@ pub appends_nothing : (a : Option (List ℕ)) → Appends a a []
 appends_nothing None = tt
 appends_nothing (Some xs) = sym (append-nil xs)
 
+-- after the first `n` elements of a slice come as many as are left
+pub rest_of : (xs : List ℕ) (n : ℕ) → take (length xs - n) (drop n xs) ≡ drop n xs
+rest_of xs n = let short : length (drop n xs) ≤ length xs - n = omega (arith, length-drop n xs) in take_all _ _ short
+
 pub split_later : (all gone rest : List ℕ) (n : ℕ) → all ≡ gone ++ rest → all ≡ (gone ++ take n rest) ++ take (length rest - n) (drop n rest)
-split_later all gone rest n e = e ∙ ap (λ r. gone ++ r) (sym (take-append-drop n rest)) ∙ sym (append_assoc gone (take n rest) (drop n rest)) ∙ ap (λ r. (gone ++ take n rest) ++ r) (sym (slice-rest n rest))
+split_later all gone rest n e = e ∙ ap (λ r. gone ++ r) (sym (take-append-drop n rest)) ∙ sym (append_assoc gone (take n rest) (drop n rest)) ∙ ap (λ r. (gone ++ take n rest) ++ r) (sym (rest_of rest n))
 
 -- nothing was written yet
 pub sends-none : (w : Option (List ℕ)) (text : List ℕ) → Sends w w text text
