@@ -1,6 +1,7 @@
-"""How much of a line is a command, and what could come where it stops. The forms are those of LANGUAGE's table of commands."""
+"""How a line is read as a command, and where it stops being one. The forms are those of LANGUAGE's table of commands."""
 import re
 from functools import lru_cache
+from itertools import repeat
 from typing import Any, Collection, NamedTuple, Optional
 
 from . import language
@@ -10,7 +11,8 @@ ARGUMENT = f"{ARRAY} or {LITERAL}"
 VERB, COMMAND, END = "an array, or a word such as zeros, add or sum", "a command, or a name and `=`", "the end of the line"
 TYPE, OPERATION, ORDER = "a type, as <i4", "an operation, as add", "`C` or `F`"
 ENTRY = "an integer, a slice as 1:3, `...`, None or an array of integers or bools"
-FILE = "a file name in quotes: letters, digits, `_`, `-` and `.`, no folder"
+FIELD, FILE = "a name in quotes", "a file name in quotes: letters, digits, `_`, `-` and `.`, no folder"
+OPENING = re.compile(r"[ \t]*(\w*)[ \t]*(?:=[ \t]*(\w*))?", re.ASCII)
 PARTED = r"(?=b'|[^\w+-]|$)"  # behind a word or a number no other begins at once, but a byte string
 INTEGER = rf"[+-]?[0-9]{{1,30}}{PARTED}"
 RECORD = re.compile(r"[@=<>!^]*T\{")
@@ -20,10 +22,12 @@ SPECIAL = [("OP", "Y", "Y[?]"), ("UN", "Y", "Y[?]"), ("reshape", "S", "S-"), ("f
 
 
 class Part(NamedTuple):
-    """A piece of a form, and its text in a line."""
+    """A piece of a form, its text in a line, and the tree of its rule there: of a token the text, of a list the tree of the rule that
+    holds, of `Many` and of a tuple a list of trees."""
 
     piece: str
     text: str
+    tree: Any
 
 
 class Token(NamedTuple):
@@ -38,6 +42,9 @@ class Many(NamedTuple):
     """A rule any number of times."""
 
     rule: Any
+
+
+Form = list[tuple[str, Any]]  # pieces, each with its rule
 
 
 # A rule is a token, a tuple of rules one behind another, a list of rules of which the first that fits holds, `Many`, or TYPE.
@@ -95,7 +102,7 @@ def rule_of(piece: str, what: str) -> Any:
         "=": mark("="), "X": name(what), "Y": name(what), "D": TYPE, "S": shape(INTEGER.replace("[+-]?", "")), "S-": shape(INTEGER),
         "(axes)": shape(INTEGER), "L": literal(LITERAL), "L..": Many(literal(LITERAL)), "a": Token(INTEGER, "the first integer"),
         "b": Token(INTEGER, "the end, an integer"), "s": Token(INTEGER, "the step, an integer"), "[axis]": maybe(Token(INTEGER, "an axis")),
-        "[keep]": maybe(word(["keep"], "keep")), "Y[?]": (name(what), maybe(index())), '"field"': Token('"[^"]*"', "a name in quotes"),
+        "[keep]": maybe(word(["keep"], "keep")), "Y[?]": (name(what), maybe(index())), '"field"': Token('"[^"]*"', FIELD),
         '"f"': Token(r'"\w[\w.-]{0,63}"', FILE), "Z": [literal(ARGUMENT), (name(ARGUMENT), maybe(index()))],
         "C": word("C", ORDER), "F": word("F", ORDER),
     }
@@ -105,7 +112,7 @@ def rule_of(piece: str, what: str) -> Any:
 
 
 @lru_cache(None)
-def forms() -> list[list[tuple[str, Any]]]:
+def forms() -> list[Form]:
     """The pieces of each form of a command, each with its rule."""
     made = []
     for form in (form for command in language.commands() for form in command.forms):
@@ -116,67 +123,91 @@ def forms() -> list[list[tuple[str, Any]]]:
 
 
 @lru_cache(None)
+def openings() -> dict[str, list[Form]]:
+    """The forms by the word that they begin with, at once or behind `X =`; those of `X = Y` by no word."""
+    found: dict[str, list[Form]] = {}
+    for form in forms():
+        first = form[2 if form[1:2] and form[1][0] == "=" else 0][0]
+        for word in language.operations().get(first, [first if first.islower() else ""]):
+            found.setdefault(word, []).append(form)
+    return found
+
+
+@lru_cache(None)
 def compiled(pattern: str) -> "re.Pattern[str]":
     return re.compile(pattern, re.ASCII)
 
 
 class Reading:
-    """A line, matched against each form: `parts` if it matches one as a whole; otherwise `far`, the place up to which it matches some
-    form, and `wanted`, what could come there, each with the remaining pieces of the form. If `names` are given, only these are arrays."""
+    """A line, matched against each form: `found`, all pieces of the form that it matches as a whole, and `parts`, those that are there;
+    otherwise `far`, the place up to which it matches some form, and `wanted`, what could come there, each with the remaining pieces of
+    the form. If `names` are given, only these are arrays."""
 
     def __init__(self, line: str, names: Optional[Collection[str]] = None):
         self.line, self.names = line, names
-        self.far, self.wanted = 0, dict[str, list[str]]()
-        self._behind: list[str] = []
-        self.parts: list[Part] = next(filter(None, map(self._form, forms())), [])
+        first, value = OPENING.match(line).groups()  # type: ignore[union-attr]
+        likely = openings().get(first if value is None else value) or openings()[""]
+        self.found = self._matched(likely) or self._matched(forms())
+        self.parts = [part for part in self.found if part.text]
 
-    def _form(self, form: list[tuple[str, Any]]) -> list[Part]:
+    def _matched(self, tried: list[Form]) -> list[Part]:
+        """The parts of the line by the first form that it matches, if there is one."""
+        self.far, self.wanted = 0, dict[str, list[str]]()
+        self._behind: Form = []
+        return next(filter(None, map(self._form, tried)), [])
+
+    def _form(self, form: Form) -> list[Part]:
         at, parts = 0, []
         for k, (piece, rule) in enumerate(form):
-            self._behind = [piece for piece, _ in form[k:]]
-            end = self._read(rule, at)
-            if end is None:
+            self._behind = form[k:]
+            found = self._read(rule, at)
+            if found is None:
                 return []
-            if end > at:
-                parts.append(Part(piece, self.line[self._skip(at):end]))
+            end, tree = found
+            parts.append(Part(piece, self.line[self._skip(at):end], tree))
             at = end
         self._behind = []
-        return parts if self._skip(at) == len(self.line) or self._want(at, END) else []
+        if self._skip(at) < len(self.line):
+            self._want(at, END)
+            return []
+        return parts
 
-    def _read(self, rule: Any, at: int) -> Optional[int]:
-        """The end of a rule that begins at a place."""
+    def _read(self, rule: Any, at: int) -> Optional[tuple[int, Any]]:
+        """The end of a rule that begins at a place, and the tree of what it reads."""
         if isinstance(rule, Token):
             return self._token(rule, at)
         if rule is TYPE:
             return self._type(at)
         if isinstance(rule, list):
-            return next((end for each in rule if (end := self._read(each, at)) is not None), None)
-        if isinstance(rule, Many):
-            while (end := self._read(rule.rule, at)) is not None:
-                at = end
-            return at
-        for each in rule:
-            if (end := self._read(each, at)) is None:
-                return None
-            at = end
-        return at
+            return next(filter(None, (self._read(each, at) for each in rule)), None)
+        trees: list[Any] = []
+        for each in repeat(rule.rule) if isinstance(rule, Many) else rule:
+            if (found := self._read(each, at)) is None:
+                return (at, trees) if isinstance(rule, Many) else None
+            at = found[0]
+            trees.append(found[1])
+        return at, trees
 
-    def _token(self, token: Token, at: int) -> Optional[int]:
+    def _token(self, token: Token, at: int) -> Optional[tuple[int, str]]:
         begin = at if token.is_glued else self._skip(at)
         found = compiled(token.pattern).match(self.line, begin)
-        is_array = token.what in (ARRAY, VERB, ARGUMENT) and found and found[0].isidentifier() and found[0] not in reserved()
-        if found and not (is_array and self.names is not None and found[0] not in self.names):
-            return found.end()
+        if found and (self.names is None or not self._is_unbound(token, found[0])):
+            return found.end(), found[0]
         is_apart = token.is_glued and self.line.startswith("[", self._skip(at))
         return self._want(at, token.what + " at once behind the name" * is_apart)
 
-    def _type(self, at: int) -> Optional[int]:
+    def _is_unbound(self, token: Token, text: str) -> bool:
+        is_array = token.what in (ARRAY, VERB, ARGUMENT) and text.isidentifier() and text not in reserved()
+        return is_array and text not in (self.names or ())
+
+    def _type(self, at: int) -> Optional[tuple[int, str]]:
         """A type: after a blank, up to the next blank or the brace that closes a record."""
         begin = self._skip(at)
         if begin == at or begin == len(self.line):
             return self._want(at, TYPE)
         if not (found := RECORD.match(self.line, begin)):
-            return begin + len(re.split(r"[ \t]", self.line[begin:])[0])
+            text = re.split(r"[ \t]", self.line[begin:])[0]
+            return begin + len(text), text
         depth, is_named, end = 1, False, found.end()
         while depth:
             if end == len(self.line):
@@ -184,15 +215,15 @@ class Reading:
             letter, end = self.line[end], end + 1
             depth += 0 if is_named else {"{": 1, "}": -1}.get(letter, 0)
             is_named ^= letter == ":"
-        return end if compiled(PARTED).match(self.line, end) else self._want(end, "a blank")
+        return (end, self.line[begin:end]) if compiled(PARTED).match(self.line, end) else self._want(end, "a blank")
 
-    def _want(self, at: int, what: str) -> Optional[int]:
-        """Notes that something is missing at a place."""
+    def _want(self, at: int, what: str) -> Optional[tuple[int, str]]:
+        """Notes that something is missing at a place, where nothing is read then."""
         at = self._skip(at)
         if what and at > self.far:
             self.far, self.wanted = at, {}
         if what and at == self.far:
-            self.wanted.setdefault(what, self._behind)
+            self.wanted.setdefault(what, [piece for piece, _ in self._behind])
         return None
 
     def _skip(self, at: int) -> int:

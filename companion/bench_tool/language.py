@@ -6,6 +6,8 @@ from pathlib import Path
 from string import Template
 from typing import NamedTuple
 
+from .numpy_rules import NO_FLOATS
+
 HERE = Path(__file__).resolve()
 PLACES = (HERE.with_name("LANGUAGE.md"), HERE.parents[1] / "LANGUAGE.md", HERE.parents[2] / "docs/LANGUAGE.md")
 LISTS = re.compile(r"(?:OP is one of|the comparisons|UN one of|RED one of)\s+`([^`]*)`")
@@ -112,6 +114,15 @@ def plain(markdown: str) -> str:
     return re.sub(r"\n{3,}", "\n\n", "\n".join(made))
 
 
+def paragraphs(word: str) -> list[str]:
+    """The first paragraphs of the page that have a word, in the singular or the plural."""
+    stem = re.escape(word.lower().removesuffix("ing").rstrip("s"))
+    if re.fullmatch("float|double|decimal|real", stem):
+        return [f"  {NO_FLOATS}"]
+    found = [part for part in text().split("\n\n") if len(stem) > 2 and re.search(rf"\b{stem}", part, re.I) and part[:1] not in "|#`!"]
+    return [plain(part) for part in found[:3]]
+
+
 def help_text(word: str = "", columns: int = 0) -> str:
     """All forms; for a command its form, what it does, its reply, its refusals and an example; for a code when it occurs; or a section."""
     if word in codes():
@@ -122,7 +133,7 @@ def help_text(word: str = "", columns: int = 0) -> str:
         lines = Template(example).substitute(word=word).replace("; ", f"\n{' ' * 10}")
         found += [f"      for example:\n{' ' * 10}{lines}"] * bool(found and example)
         sections = [plain(part.rstrip()) for part in text().split("\n## ") if word in part.partition("\n")[0].lower().split()]
-        return "\n".join(found or sections) or f"  there is no command {word}; help lists them all"
+        return "\n".join(found or sections or paragraphs(word)) or f"  there is no command {word}; help lists them all"
     width = max(len(form) for command in commands() for form in command.forms)
     shown = [f"  {form:{width}}  {command.what or command.reply}" for command in commands() for form in command.forms]
     shown += [f"  {key} is one of {' '.join(words)}" for key, words in operations().items()]
