@@ -125,6 +125,28 @@ class FromNumPy(unittest.TestCase):
             with self.subTest(code):
                 self.assertEqual(self.refused(code, cell).text, f"no {code} {language.codes()[code][0]}")
 
+    @unittest.skipUnless(np is not None and np.__version__ == "1.24.2", "NumPy 1.24.2 is not installed")
+    def test_something_else(self):
+        for what, code, theirs, cell, ours in rows("Where NumPy does something else"):
+            with self.subTest(what):
+                self.assertEqual(f"`{self.shown(lines_of(code)[0])}`", theirs)
+                replies = self.session().run([*BLOCKS["bench"].splitlines(), *lines_of(cell)])
+                self.assertEqual(f"`{replies[-1].text}`", ours)
+
+    def shown(self, code):
+        """What the last expression of some code of NumPy shows, or the name of the exception."""
+        names = {"np": np}
+        exec(BLOCKS["python"], names)
+        *first, last = code.split("; ")
+        with warnings.catch_warnings():
+            warnings.simplefilter("ignore")
+            try:
+                for statement in first:
+                    exec(statement, names)
+                return str(eval(last, names))
+            except Exception as fault:
+                return type(fault).__name__
+
     def test_open_or_wrong(self):
         for cell, ours, theirs, _ in rows("Where NumPy's result is undefined, or wrong"):
             lines = lines_of(cell)

@@ -54,8 +54,8 @@ def script(seed: str, profile: Optional[str], size: Optional[int] = None) -> Scr
     chosen = profile or rng.choice(["mixed", "mixed", "mixed", "computing", "formats"])
     files = first_files(rng) if chosen == "mixed" else {}
     reference = Reference(rng.choice(DEPTHS), files)
-    lines = scripts.write(rng, reference.ask, scripts.PROFILES[chosen], size or rng.randint(5, 40), list(files))
-    return Script(reference, lines, files)
+    steps = scripts.write(rng, reference.ask, chosen, size or rng.randint(5, 40), list(files))
+    return Script(reference, [step.line for step in steps], files)
 
 
 def difference(runner: Runner, script: Script) -> Optional[tuple[object, object]]:

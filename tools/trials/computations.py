@@ -1,6 +1,8 @@
 """What operations, comparisons, updates and reductions give, by NumPy on operands of the type that the result is to have. Comparisons are
 Python's, of integers and byte strings, since NumPy 1 compares signed with unsigned numbers as floats; and a literal has the type that the
-language gives it, whatever its value. Where several refusals hold, the first of the documented order is raised."""
+language gives it, whatever its value. Where several refusals hold, the first of the documented order is raised.
+
+Where a rule of the bench is another one than NumPy's by intent, a comment `FROM-NUMPY:` names the row of docs/FROM-NUMPY.md."""
 from __future__ import annotations
 
 import math
@@ -35,6 +37,7 @@ def result_type(word: str, left: Dtype, right: Dtype) -> Dtype:
     """The type of what a word gives on two types, as for two arrays."""
     if word in COMPARISONS and is_number(left) == is_number(right) and left.names is None and right.names is None:
         return np.dtype(bool)
+    # FROM-NUMPY: shifts of bools
     if not is_number(left) or not is_number(right) or left.kind == right.kind == "b" and word in NOT_OF_BOOLS:
         raise Refused("E22")
     if word == "div" or np.promote_types(left, right).kind == "f":
@@ -61,6 +64,7 @@ def type_beside(word: str, left: Array, right: Operand) -> Dtype:
         return result_type(word, left.dtype, right.dtype)
     beside = literal_type(right, left.dtype)
     dtype = result_type(word, left.dtype, beside)
+    # FROM-NUMPY: a literal out of range takes a wider type
     if word not in COMPARISONS and not is_value(int(right), beside):
         raise Refused("E23")
     return dtype
@@ -68,6 +72,7 @@ def type_beside(word: str, left: Array, right: Operand) -> Dtype:
 
 def worked(word: str, left: Array, right: Operand) -> Array:
     """What a word gives on an array and an array or a literal."""
+    # FROM-NUMPY: an operand without axes; `<i8` beside `<u8`, or beside a number that it cannot hold; results in the order of their operands
     dtype = type_beside(word, left, right)
     other = right if isinstance(right, np.ndarray) else np.array(right, object)
     operands: Any = object if word in COMPARISONS else dtype
@@ -90,6 +95,7 @@ def reduced(word: str, array: Array, axis: Optional[int], keep: bool) -> Array:
     """What a reduction gives. NumPy also refuses to find the least of no items where there is none to be found."""
     if not is_number(array.dtype):
         raise Refused("E22")
+    # FROM-NUMPY: a reduction of an array without axes along an axis
     if axis is not None and not -array.ndim <= axis < array.ndim:
         raise Refused("E17")
     reduce, shape = named(np, word), np.any(array, axis=axis, keepdims=keep).shape
@@ -99,6 +105,7 @@ def reduced(word: str, array: Array, axis: Optional[int], keep: bool) -> Array:
     except ValueError:
         if math.prod(shape):
             raise Refused("E25") from None
+        # FROM-NUMPY: the least of no items where the result has no items
         return np.zeros(shape, dtype)
 
 

@@ -1,4 +1,5 @@
-"""The items of an array that an index list names; its refusals come in the program's order."""
+"""The items of an array that an index list names; its refusals come in the program's order. Comments `FROM-NUMPY:` name rows of
+docs/FROM-NUMPY.md where NumPy itself does something else."""
 from __future__ import annotations
 
 from typing import Any, Callable, Iterator
@@ -52,10 +53,12 @@ def check(array: Array, items: list[Any]) -> None:
     if sum(map(width, items)) > array.ndim:
         raise Refused("E10")
     pairs = list(lined_up(array, items))
+    # FROM-NUMPY: a mask of no items on an axis that has some
     if any(is_mask(item) and item.shape != lengths for item, lengths in pairs):
         raise Refused("E13")
     if any(isinstance(item, slice) and item.step == 0 for item in items):
         raise Refused("E12")
+    # FROM-NUMPY: an index out of range where nothing is selected
     if any(is_outside(item, lengths) for item, lengths in pairs):
         raise Refused("E11")
 
@@ -67,6 +70,7 @@ class Part:
     def __init__(self, array: Array, items: list[Any]):
         check(array, items)
         self.array, self.places = array, None
+        # FROM-NUMPY: an integer for every axis is a view
         self.items = tuple(items) + (() if any(item is Ellipsis for item in items) else (Ellipsis,))
         if any(isinstance(item, np.ndarray) for item in items):
             self.items = tuple(np.asarray(item) if isinstance(item, int) else item for item in self.items)
@@ -82,6 +86,7 @@ class Part:
 
     def write(self, made: Array) -> None:
         """Writes items of the array's own type; of a place that is named twice the last one stands."""
+        # FROM-NUMPY: an index array or a mask, and a source in the same array; the target is the index array or the mask
         if self.places is None:
             self.array[self.items] = made
         else:

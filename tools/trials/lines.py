@@ -113,5 +113,5 @@ def random_script(program: Named, rng: Random, number: int, depths: Sequence[int
     """A random script with up to thirty commands, at some depth, as the program takes it."""
     depth = rng.choice(depths)
     with tempfile.TemporaryDirectory() as folder, Session(program, depth, folder) as bench:
-        lines = scripts.write(rng, lambda line: bench.send(line).text, scripts.PROFILES["small"], rng.randint(8, 30))
-    return Script(f"random script {number}", [line.encode() for line in lines], {}, depth)
+        steps = scripts.write(rng, lambda line: bench.send(line).text, "small", rng.randint(8, 30))
+    return Script(f"random script {number}", [step.line.encode() for step in steps], {}, depth)

@@ -8,7 +8,7 @@ from typing import Any
 import numpy as np
 from numpy.lib import format as untyped
 
-from bench_tool import scripts
+from bench_tool import profiles, scripts
 
 from . import dtypes
 from .dtypes import Array
@@ -50,9 +50,9 @@ def with_marked_padding(array: Array, order: Any) -> Array:
 
 def random_array(rng: Random, most: int = 4) -> Array:
     """An array of some type and shape."""
-    text = rng.choice(scripts.NUMBERS + scripts.STRINGS + scripts.RECORDS)
+    text = rng.choice(profiles.NUMBERS + profiles.STRINGS + profiles.RECORDS)
     shape = [rng.randint(0, most) for _ in range(rng.choice([0, 1, 1, 2, 2, 3]))]
-    values = [dtypes.literal(scripts.literal(rng, text, True)) for _ in range(int(np.prod(shape, dtype=int)))]
+    values = [scripts.literal(rng, text, True) for _ in range(int(np.prod(shape, dtype=int)))]
     return np.array(values, dtype=dtypes.read(text)).reshape(shape)
 
 

@@ -72,6 +72,7 @@ def reshaped(array: Array, lengths: list[int]) -> tuple[Array, str]:
     given, left_open = math.prod(length for length in lengths if length >= 0), sum(length < 0 for length in lengths)
     if len(lengths) > MOST_AXES:
         raise Refused("E08")
+    # FROM-NUMPY: a length below -1 in a reshape
     if min([0, *lengths]) < -1 or left_open > 1 or (given == 0 or array.size % given if left_open else given != array.size):
         raise Refused("E18")
     if max([0, *lengths]) > MOST_ITEMS:
@@ -249,8 +250,10 @@ class Reference:
         target = self.target(name, items)
         given = self.part(source, taken).read()
         shown = np.zeros(target.read().shape, given.dtype)
+        # FROM-NUMPY: a slice that is assigned to a slice of the same array; a mask, and a source with an axis in front
         with refusing("E16"):
             shown[...] = given
+        # FROM-NUMPY: numbers to and from byte strings
         if not dtypes.can_cast(given.dtype, target.array.dtype):
             raise Refused("E33")
         made = dtypes.cast(shown, target.array.dtype)
