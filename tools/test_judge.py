@@ -1,0 +1,245 @@
+"""The judge: its cases, the planted library (each fault is found by the cases, the right library has no finding), its runner, reports and
+adapters; and NumPy, whose differences are all rows of docs/FROM-NUMPY.md. BENCH_TESTS=all asks the planted library all questions, and makes
+random scripts for ten minutes."""
+import contextlib
+import io
+import json
+
+
+import random
+import re
+import subprocess
+import sys
+
+import unittest
+from unittest import mock
+
+from cases import by_numpy
+from trials import judging
+from trials.companion_trials import COMPANION, TOP, InFolder, numpy_or_none, share
+from bench_tool import cases, judge_adapter, library, needs
+from bench_tool.judge_oracle import Oracle
+from bench_tool.main import main
+
+ALL = cases.read(place=TOP / "vectors")
+ADAPTERS = TOP / "examples/judge"
+ISSUE = 24  # the first faults of the list are those of other libraries
+needs_library = unittest.skipUnless(library.loaded(), "there is no libbench here")
+needs_numpy = unittest.skipUnless(numpy_or_none(), "NumPy is not installed")
+
+
+def judged(*words, status=None):
+    """What `bench-tool judge` prints, and its status."""
+    out, err = io.StringIO(), io.StringIO()
+    with contextlib.redirect_stdout(out), contextlib.redirect_stderr(err):
+        found = main(["judge", *map(str, words)])
+    if status is not None and found != status:
+        raise AssertionError(f"status {found}: {out.getvalue()[-2000:]} {err.getvalue()[-2000:]}")
+    return out.getvalue()
+
+
+class Cases(unittest.TestCase):
+    def test_limits(self):
+        self.assertLessEqual(len(ALL), 5000)
+        self.assertLessEqual(sum(path.stat().st_size for path in (TOP / "vectors").iterdir()), 2_500_000)
+        self.assertEqual(len({case.id for case in ALL}), len(ALL))
+        said = f"{len(ALL):,} cases", f"{sum(len(case.rows) or 1 for case in ALL):,} questions"
+        for page in ("JUDGE", "VECTORS"):
+            text = (TOP / f"docs/{page}.md").read_text()
+            self.assertTrue(all(each in text for each in said), (page, said))
+        for case in ALL:
+            self.assertLessEqual(len(case.steps), 6, case.id)
+            self.assertLessEqual(case.needs, needs.ALL, case.id)
+
+    def test_schema(self):
+        """The keys are those of docs/VECTORS.md, and lines are the steps."""
+        page = (TOP / "docs/VECTORS.md").read_text().split("## The schema")[1].split("\n## ")[0]
+        keys = set(re.findall(r"^\| `(\w+)` ", page, re.M))
+        for path in (TOP / "vectors").glob("*.jsonl"):
+            for line in path.read_text().splitlines():
+                self.assertLessEqual(set(json.loads(line)), keys, path.name)
+        for case in ALL:
+            if not case.rows:
+                self.assertEqual(next(case.questions()).lines, case.lines)
+
+    def test_pairs_of_slices(self):
+        """All 2,912 pairs, as set, upd, by an index array and by a mask."""
+        for feature, word, most in (("overlap: slices", "set a[", 2912), ("overlap: slices, in place", "upd a[", 2912)):
+            lines = {question.lines for case in ALL if case.feature == feature and "|b1" not in case.lines[0] for question in case.questions()}
+            self.assertEqual(len([each for each in lines if each[-1].startswith(word)]), most)
+
+    @needs_library
+    def test_bench(self):
+        """The bench gives what each case wants, and shares what it says."""
+        oracle = Oracle()
+        for case in ALL[::share(7, 1)]:
+            for question in list(case.questions())[::share(5, 1)]:
+                steps = oracle.steps(question.commands, question.files)
+                self.assertEqual((steps[-1].code, [each.code for each in steps[:-1]]), (question.refuse, [""] * (len(question.commands) - 1)), question.id)
+                for name, want in question.want.items():
+                    got = steps[-1].shown[name]
+                    self.assertEqual((got.type, got.shape, list(got.items)), (want.type, want.shape, list(want.items)), question.id)
+
+    @needs_library
+    def test_made_again(self):
+        """tools/cases makes the same cases, but for what NumPy says."""
+        from cases import broadcasting, records
+        from cases.maker import Maker
+        for family in (records, *share((), (broadcasting,))):
+            maker = Maker()
+            family.all_cases(maker)
+            for made in maker.cases.values():
+                for case in made:
+                    self.assertEqual({**next(each for each in ALL if each.id == case.id).to_json(), "numpy": "same"}, case.to_json())
+
+
+class Planted(unittest.TestCase):
+    """The library of tools/trials/planted_library.py."""
+
+    @classmethod
+    def setUpClass(cls):
+        cls.adapter = judge_adapter.adapter_of(str(judging.PLANTED))
+
+    def test_every_fault_is_found_by_the_cases(self):
+        faults = sys.modules["planted_library"].FAULTS
+        self.assertGreaterEqual(len(faults), 50)
+        few, every = (list(judging.questions(self.adapter, ALL, rows)) for rows in (40, 1))
+        for questions in (few, every):
+            random.Random(1).shuffle(questions)
+        for fault in faults:
+            with self.subTest(fault):
+                self.assertIsNotNone(judging.found_by(self.adapter, few, fault) or judging.found_by(self.adapter, every, fault))
+
+    def test_the_right_library_has_no_finding(self):
+        tried = 0
+        for verdict in judging.verdicts(self.adapter, judging.questions(self.adapter, ALL, share(9, 1))):
+            tried += 1
+            self.assertIn(verdict.verdict, ("pass", "not supported"), (verdict.question.id, verdict.question.lines, verdict.got))
+        self.assertGreater(tried, 2000)
+
+    @needs_library
+    def test_random_scripts(self):
+        """The right library has no finding in some random scripts, and a few faults are found by them."""
+        self.assertIsNone(judging.found_at_random(self.adapter, "", share(300, 100_000), random.Random(1)))
+        faults = sys.modules["planted_library"].FAULTS[:share(6, ISSUE)]
+        found = [fault for fault in faults if judging.found_at_random(self.adapter, fault, share(1500, 6000), random.Random(2))]
+        self.assertGreaterEqual(len(found), share(4, 18), found)
+
+
+@needs_library
+class Runner(InFolder):
+    """`bench-tool judge`, with adapters that are wrong, die, hang or lack something."""
+
+    def adapter(self, more="", has=None):
+        path = self.folder / "my_adapter.py"
+        has = "" if has is None else f"    HAS = {has!r}\n"
+        path.write_text(f"import os, sys, time\nsys.path.insert(0, {str(judging.PLANTED.parent)!r})\nimport planted_library as lib\n\nclass Adapter:\n{has}"
+                        "    def make(self, type, shape, items): return lib.make(type, shape, items)\n    def items(self, a): return a.type, a.shape, lib.items(a)\n"
+                        "    def take(self, a, index): return lib.take(a, index)\n" + more)
+        return path
+
+    def test_right(self):
+        text = judged(self.adapter(), "--only", "indexes/", "--seconds", 0, status=0)
+        self.assertIn("0 findings that are wrong or deadly", text)
+
+    def test_wrong(self):
+        text = judged(self.adapter("    def take(self, a, index): return lib.copy(lib.take(a, (slice(None, None, -1),)), 'C') if a.shape else a\n"), "--only", "slices/00", "--seconds", 0,
+                      "--json", self.folder / "r.json", "--junit", self.folder / "r.xml", "--html", self.folder / "r.html", status=1)
+        self.assertIn("as calls:\n    a = make(", text)
+        self.assertRegex(text, r"file://.*bench.html#script=[\w-]+&line=2|no page" if (TOP / "dist/bench.html").is_file() else "WRONG")
+        found = json.loads((self.folder / "r.json").read_text())["programs"][0]["findings"]
+        self.assertTrue(all(each["lines"] and each["right"] for each in found))
+        self.assertIn("<failure", (self.folder / "r.xml").read_text())
+        self.assertIn("<table>", (self.folder / "r.html").read_text())
+
+    def test_death_and_hang(self):
+        dies = "    def take(self, a, index):\n        if a.shape == (3,): os.kill(os.getpid(), 11)\n        return lib.take(a, index)\n"
+        text = judged(self.adapter(dies), "--only", "indexes/0001", "--seconds", 0, status=1)
+        self.assertIn("DIES", text)
+        self.assertIn("SIGSEGV", text)
+        hangs = "    def take(self, a, index):\n        if a.shape == (3,): time.sleep(1000)\n        return lib.take(a, index)\n"
+        with mock.patch("bench_tool.judge_runs.PATIENCE", 1.0), mock.patch("bench_tool.judge_runs.Worker.ask.__defaults__", (1.0,)):
+            text = judged(self.adapter(hangs), "--only", "indexes/0001", "--seconds", 0, "--processes", 1, status=1)
+        self.assertIn("no answer in", text)
+
+    def test_what_it_lacks_is_no_failure(self):
+        text = judged(self.adapter("    def put(self, a, index, value): raise NotImplementedError('no writes')\n", "i8 steps"), "--only", "slices/00", "--seconds", 0, status=0)
+        self.assertNotIn("WRONG", text)
+
+    def test_expected_findings(self):
+        path, known = self.adapter("    def take(self, a, index): return lib.make(a.type, (1,), [0])\n"), self.folder / "known.txt"
+        words = (path, "--only", "slices/00", "--seconds", 0, "--expect", known)
+        judged(*words, status=1)
+        judged(*words, "--update", status=0)
+        self.assertIn("of them expected", judged(*words, status=0))
+
+    def test_random(self):
+        text = judged(self.adapter("    def take(self, a, index): return lib.make(a.type, (1,), [0])\n"), "--only", "random", "--seconds", 4, "--processes", 1, status=1)
+        self.assertIn("random scripts, random/1.0.", text)
+
+    def test_pipe(self):
+        script = self.folder / "program.py"
+        script.write_text(f"import sys\nsys.path.insert(0, {str(COMPANION)!r})\nfrom bench_tool import judge_adapter\nsys.argv[1:] = [{str(self.adapter())!r}]\njudge_adapter.main()\n")
+        judged("--pipe", f"{sys.executable} {script}", "--only", "indexes/", "--seconds", 0, status=0)
+
+    @needs_numpy
+    def test_example(self):
+        """The adapter of docs/JUDGE.md."""
+        code = re.search(r"```python\n(# my_adapter.py.*?)```", (TOP / "docs/JUDGE.md").read_text(), re.S)[1]
+        (self.folder / "my_adapter.py").write_text(code)
+        text = judged(self.folder / "my_adapter.py", "--only", "indexes/", "--seconds", 0, status=0)
+        self.assertRegex(text, r"(?m)^feature +my$")
+
+    def test_wrong_words(self):
+        for words in (["nowhere.py"], [], [self.adapter(), "--only", "zzz"], [self.adapter(), "--needs", "zzz"]):
+            self.assertEqual(main(["judge", *map(str, words)]), 3)
+
+
+@needs_library
+@needs_numpy
+class NumPy(unittest.TestCase):
+    """NumPy, called as its users call it."""
+
+    def test_each_difference_is_a_row(self):
+        page = (TOP / "docs/FROM-NUMPY.md").read_text()
+        part = page.split("\n## Where NumPy does something else\n", 1)[1].split("\n## ", 1)[0]
+        for case in ALL:
+            if case.numpy != "same":
+                why = case.numpy.get("differs") or case.numpy["open"]
+                self.assertTrue(f"| {why}" in part or why == "headers that only one of the two reads" and "headers that only one of the two reads" in part, why)
+
+    def test_the_mended_reference_names_its_rows(self):
+        """Each place of the reference that is not NumPy's rule names a row, and each row but those of the cases alone is named."""
+        page = (TOP / "docs/FROM-NUMPY.md").read_text()
+        named = [row for path in (TOP / "tools/trials").glob("*.py") for line in re.findall(r"# FROM-NUMPY: (.*)", path.read_text()) for row in line.split("; ")]
+        self.assertGreater(len(named), 12)
+        for row in named:
+            self.assertIn(f"\n| {row}", page)
+
+    def test_what_the_cases_say(self):
+        """A part of the cases, asked again: what differs is marked so."""
+        import numpy
+        if numpy.__version__ != next(case.numpy["version"] for case in ALL if case.numpy != "same"):
+            self.skipTest("another version of NumPy than that of the cases")
+        for case, verdicts in by_numpy.asked(ALL[::share(11, 1)]):
+            self.assertEqual(by_numpy.labelled(case, verdicts, numpy.__version__)["numpy"], case.numpy, case.id)
+
+
+class Adapters(unittest.TestCase):
+    def test_sizes(self):
+        for path in ADAPTERS.iterdir():
+            if path.suffix in (".py", ".cpp"):
+                self.assertLessEqual(len(path.read_text().splitlines()), 120 if path.suffix == ".cpp" else 25, path.name)
+
+    @needs_library
+    def test_torch_and_others(self):
+        """Each library that is here is asked one family."""
+        for name in ("torch", "dask", "numba"):
+            with self.subTest(name):
+                if subprocess.run([sys.executable, "-c", f"import {name}"], capture_output=True).returncode:
+                    self.skipTest(f"{name} is not installed")
+                self.assertIn("questions of", judged(ADAPTERS / f"{name}_adapter.py", "--only", "slices/000", "--seconds", 0))
+
+
+if __name__ == "__main__":
+    unittest.main()
