@@ -1,23 +1,21 @@
 """`bench-tool shell` in a pseudo-terminal: prompt, history, Tab, help, Ctrl-C, Ctrl-D, long lines."""
 import contextlib
 import os
-import pty
 import random
 import re
 import select
 import signal
 import subprocess
 import sys
-import threading
 import time
 import unittest
 import unittest.mock
 
-from trials.companion_trials import PATIENT, PROGRAM, TOOL, TOP, InFolder, environment, needs_program, share
+from test_run import below
+from trials.companion_trials import COMPANION, PATIENT, PROGRAM, TOOL, TOP, InFolder, environment, needs_program, share
+from trials.terminals import AT_PROMPT, CTRL_C, CTRL_D, ENTER, TAB, UP, Terminal
 from bench_tool.shell import PROMPT, history
 
-UP, TAB, CTRL_C, CTRL_D, ENTER = b"\x1b[A", b"\t", b"\x03", b"\x04", b"\r"
-AT_PROMPT = b"\n" + PROMPT.encode()
 
 # A program that is at work for two seconds on each line that begins with `slow`, and for long on `print slow`, which it writes to a file.
 SLOW = f"""#!{sys.executable}
@@ -33,55 +31,20 @@ program.stdin.close()
 sys.exit(program.wait())
 """
 
-
-class Terminal:
-    """A program in a terminal of its own."""
-
-    def __init__(self, folder, words, more=None):
-        self.pid, self.terminal = pty.fork()
-        if self.pid == 0:
-            os.chdir(folder)
-            signal.signal(signal.SIGINT, signal.SIG_DFL)  # a gate that runs behind a shell's & has it ignored
-            settings = environment(**{"TERM": "xterm", "INPUTRC": "/dev/null", "NO_COLOR": "1", "BENCH_HISTORY": str(folder / "history"), **(more or {})})
-            os.execvpe(words[0], words, settings)
-        self.status = None
-
-    def type(self, keys):
-        """Types keys as fast as they are taken, while what is shown is read elsewhere."""
-        def typing():
-            for at in range(0, len(keys), 512):
-                os.write(self.terminal, keys[at:at + 512])
-        threading.Thread(target=typing, daemon=True).start()
-
-    def until(self, end, seconds=PATIENT, is_last=True):
-        """What is shown until an end, or until it has been shown; without carriage returns and bells."""
-        shown, last = b"", time.monotonic() + seconds
-        while not shown.replace(b"\r", b"").endswith(end) and (is_last or end not in shown.replace(b"\r", b"")):
-            ready, _, _ = select.select([self.terminal], [], [], max(0, last - time.monotonic()))
-            if not ready:
-                raise AssertionError(f"{end} is not shown, but {shown[-300:]}")
-            try:
-                shown += os.read(self.terminal, 65536)
-            except OSError:
-                break
-        return shown.replace(b"\r", b"").replace(b"\x07", b"").replace(b"\x1b[?2004h", b"").replace(b"\x1b[?2004l", b"").decode()
-
-    def line(self, text):
-        """What is shown for a line up to the next prompt, without the line itself."""
-        self.type(text + ENTER)
-        return self.until(AT_PROMPT).split("\n", 1)[1].removesuffix(PROMPT)
-
-    def end(self, keys=CTRL_D):
-        self.type(keys)
-        shown = self.until(b"nothing that is shown")
-        self.status = os.waitstatus_to_exitcode(os.waitpid(self.pid, 0)[1])
-        return shown
-
-    def close(self):
-        if self.status is None:
-            os.kill(self.pid, signal.SIGKILL)
-            os.waitpid(self.pid, 0)
-        os.close(self.terminal)
+# A program that ends at each line that begins with `dies`, and from then on also at those that begin with `frail`.
+FRAIL = f"""#!{sys.executable}
+import pathlib, subprocess, sys
+sign, program = pathlib.Path(sys.argv[0]).with_name("died"), subprocess.Popen([{PROGRAM!r}, *sys.argv[1:]], stdin=subprocess.PIPE)
+for line in sys.stdin.buffer:
+    if line.startswith(b"dies") or line.startswith(b"frail") and sign.exists():
+        sign.touch()
+        program.kill()
+        sys.exit(9)
+    program.stdin.write(line)
+    program.stdin.flush()
+program.stdin.close()
+sys.exit(program.wait())
+"""
 
 
 @needs_program
@@ -105,7 +68,7 @@ class Shells(InFolder):
     def test_refused_lines(self):
         shell = self.shell()
         shell.line(b"first = arange <i4 0 4 1")
-        self.assertEqual(shell.line(b"print first[0]"), "no E03 syntax\n    write: t = first[0]\n    write: print t\n")
+        self.assertEqual(shell.line(b"print first[0]"), "no E03 syntax\n    write: t = first[0]\n    write: print t\n    (Enter runs them, Up edits)\n")
         self.assertEqual(shell.line(b"print frst"), "no E06 unknown name\n    frst is not bound\n    did you mean first?\n")
         self.assertEqual(shell.line(b"t = first[4]"), "no E11 index out of range\n    axis 0 of first has length 4: 4 is outside, -4 to 3 are within\n")
         self.assertEqual(shell.line(b"t = zeros <i4 (4"), "no E03 syntax\n    t = zeros <i4 (4\n                    ^ `,` or `)`\n")
@@ -115,13 +78,47 @@ class Shells(InFolder):
         shell.line(b'save r "some.npy"')
         self.assertIn("did you mean some.npy?", shell.line(b'f = load "sme.npy"'))
 
+    def test_offered_lines_are_taken_with_one_key(self):
+        """Enter on an empty line runs them, once; Up brings the last one back; Ctrl-C and another line leave them."""
+        shell = self.shell()
+        shell.line(b"a = arange <i4 0 6 1")
+        self.assertIn("(Enter runs them, Up edits)", shell.line(b"x = a[a > 3]"))
+        self.assertEqual(shell.line(b""), "bench> t = gt a 3\nok t |b1 (6,) new\nbench> x = a[t]\nok x <i4 (2,) copy\n")
+        self.assertEqual(shell.line(b""), "")
+        self.assertIn("write: upd a[...] add 1\n    (Enter runs it, Up edits)", shell.line(b"a += 1"))
+        shell.type(UP + b"2" + ENTER)
+        self.assertIn("ok upd 6", shell.until(AT_PROMPT))
+        self.assertEqual(shell.line(b"print a"), "[12 13 14 15 16 17]\n")
+        for other in (CTRL_C, b"names" + ENTER):
+            shell.line(b"a += 1")
+            shell.type(other)
+            shell.until(AT_PROMPT)
+            self.assertEqual(shell.line(b""), "")
+        self.assertEqual(shell.line(b"print a"), "[12 13 14 15 16 17]\n")
+        shell.end()
+        self.assertEqual((self.folder / "history").read_text().splitlines()[1:4], ["x = a[a > 3]", "t = gt a 3", "x = a[t]"])
+
+    def test_who_sees_a_write(self):
+        shell = self.shell(more={"BENCH_HINT_SECONDS": "30"})
+        for line in (b"s = zeros T{<I:t:<h:temp:} (8)", b'temp = field s "temp"', b"head = s[:4]", b"c = copy temp C", b"i = array <i8 (2) 6 7"):
+            shell.line(line)
+        for line, seen in ((b"set temp[3] = 5", "s, temp and head"), (b"set temp[4] = 5", "s and temp"), (b"upd temp[i] add 1", "s and temp"), (b"set c[0] = 1", "c only")):
+            self.assertEqual(shell.line(line).split("\n", 1)[1], f"    seen by {seen}\n")
+        self.assertEqual(shell.line(b"set temp[:0] = 5"), "ok set 0\n")
+
+    def test_topics_of_the_help(self):
+        for line, said in ((b"help views", "a write through either name"), (b"help float", "there are no floats"), (b"help broadcasting", "aligns the shape"),
+                           (b"help(set)", "writes a literal"), (b'help("E11")', "an integer is outside its axis"), (b"help zzz", "there is no command zzz")):
+            done = subprocess.run([TOOL, "shell"], input=line + b"\n", capture_output=True, env=environment())
+            self.assertIn(said, done.stdout.decode())
+
     def test_help_and_quit(self):
         shell = self.shell()
         self.assertIn("X = reshape Y S", shell.line(b"help"))
         self.assertIn("E18 bad reshape", shell.line(b"help reshape"))
         self.assertIn("X = OP Y Z", shell.line(b"help shl"))
         self.assertIn("an integer is outside its axis", shell.line(b"help E11"))
-        self.assertIn("no command nothing", shell.line(b"help nothing"))
+        self.assertIn("no command frobnicate", shell.line(b"help frobnicate"))
         shell.end(b"quit" + ENTER)
         self.assertEqual(shell.status, 0)
 
@@ -147,6 +144,7 @@ class Shells(InFolder):
             (b'g = field image "gr' + TAB, 'g = field image "green"'),
             (b'save image "image.npy"', 'save image "image.npy"'),
             (b'x = load "im' + TAB, 'x = load "image.npy"'),
+            (b'print "im' + TAB, 'print "im'),
             (b"help resh" + TAB, "help reshape"),
             (b"n = zeros |S" + TAB + b" (2)", "n = zeros |S8 (2)"),
             (b"upd image[0] fd" + TAB + b"1", "upd image[0] fdiv 1"),
@@ -353,8 +351,78 @@ class Shells(InFolder):
 
     def test_program_that_ends(self):
         done = subprocess.run([TOOL, "shell"], input="names\n", capture_output=True, text=True, env=environment(BENCH="/bin/true"))
-        self.assertEqual((done.returncode, done.stdout), (3, ""))
+        self.assertEqual((done.returncode, done.stdout), (3, "    (/bin/true has ended, with status 0; the lines before this one are run again)\n"))
         self.assertIn("has ended", done.stderr)
+
+    def test_program_that_is_killed(self):
+        """As after Ctrl-C the accepted lines run again, and the shell says why."""
+        shell = self.shell()
+        for line in (b"a = zeros <i4 (2)", b"b = a[:1]", b"set b[0] = 7", b"c = copy a F"):
+            shell.line(line)
+        for names in ("names a b c\n", "names a b\n"):
+            for program in below(shell.pid):
+                os.kill(program, signal.SIGKILL)
+            self.assertRegex(shell.line(b"print a"), r"^\n    \(.* was killed: Killed; the lines before this one are run again\)\n$")
+            self.assertEqual((shell.line(b"print a"), shell.line(b"names")), ("[7 0]\n", names))
+            self.assertEqual(shell.line(b"undo"), "ok undo\n    (took back: {})\n".format("c = copy a F" if "c" in names else "set b[0] = 7"))
+
+    def test_program_that_ends_in_an_accepted_line(self):
+        """The line is given up, and the others are kept."""
+        (self.folder / "program").write_text(FRAIL)
+        (self.folder / "program").chmod(0o755)
+        lines = "a = zeros <i4 (2)\nfrail = zeros <i4 (2)\nset a[0] = 1\ndies = a\nprint a\nnames\nundo\nprint a\n"
+        done = subprocess.run([TOOL, "shell"], input=lines, capture_output=True, text=True, cwd=self.folder, timeout=PATIENT,
+                              env=environment(BENCH=str(self.folder / "program")))
+        self.assertEqual((done.returncode, done.stderr), (0, ""))
+        self.assertEqual(done.stdout.replace(str(self.folder), "FOLDER").splitlines()[3:], ["    seen by a only",
+            "    (FOLDER/program has ended, with status 9; the lines before this one are run again)",
+            "    (FOLDER/program has ended, with status 9 in `frail = zeros <i4 (2)`, which is given up; the lines before this one are run again)",
+            "[1 0]", "names a", "ok undo", "[0 0]"])
+
+    def test_read_of_what_is_no_file(self):
+        """A pipe, a device or a folder is refused at once."""
+        os.mkfifo(self.folder / "fifo")
+        shell = self.shell()
+        for name in ("fifo", "/dev/zero", "/dev/urandom", "/dev/tty", "/dev/stdin", "."):
+            self.assertIn("regular file" if name != "." else "Is a directory", shell.line(b".read " + name.encode()))
+        self.assertEqual(shell.line(b"names"), "names\n")
+
+    def test_ctrl_c_ends_read(self):
+        (self.folder / "long.bench").write_text("names\n" * 1_000_000)
+        shell = self.shell()
+        shell.type(b".read long.bench" + ENTER)
+        shell.until(b"names\nnames\n", is_last=False)
+        shell.type(CTRL_C)
+        self.assertLess(shell.until(AT_PROMPT).count("names"), 900_000)
+        self.assertEqual(shell.line(b"a = zeros <i4 (1)"), "ok a <i4 (1,) new\n")
+
+    def test_save_is_whole_or_not_at_all(self):
+        """Where no more can be written, the older session stays, and nothing else is left."""
+        (self.folder / "old.bench").write_text("# my session\n")
+        (self.folder / "old.bench").chmod(0o640)
+        lines = "".join(f"a_name_of_an_array_{k} = zeros T{{<i:x:<h:y:}} (2,3)\n" for k in range(40)) + ".save old.bench\n"
+        for most, said in (("1", "File too large"), ("unlimited", "wrote 40 lines to old.bench")):
+            done = subprocess.run(["sh", "-c", f'ulimit -f {most}; exec "$@"', "sh", TOOL, "shell"], input=lines, capture_output=True, text=True,
+                                  cwd=self.folder, env=environment())
+            self.assertIn(said, done.stdout.splitlines()[-1])
+            self.assertEqual(os.listdir(self.folder), ["old.bench"])
+            self.assertEqual((self.folder / "old.bench").read_text(), "# my session\n" if most == "1" else lines.partition(".save")[0])
+            self.assertEqual((self.folder / "old.bench").stat().st_mode & 0o777, 0o640)
+
+    def test_history_of_shells_that_end_together(self):
+        shells = [self.shell() for _ in range(4)]
+        for k, shell in enumerate(shells):
+            shell.line(f"a{k} = zeros <i4 (1)".encode())
+            shell.type(CTRL_D)
+        for shell in shells:
+            shell.end(b"")
+        self.assertEqual(sorted((self.folder / "history").read_text().splitlines()), [f"a{k} = zeros <i4 (1)" for k in range(4)])
+
+    def test_a_defect_of_the_shell(self):
+        """It is told in a line, and the shell goes on."""
+        code = "import sys; from bench_tool import main, shell; shell.Shell.dot_time = lambda *_: 1 // 0; sys.exit(main.main(['shell']))"
+        done = subprocess.run([sys.executable, "-c", code], input=".time\nnames\n", capture_output=True, text=True, env=environment(PYTHONPATH=str(COMPANION)))
+        self.assertRegex(done.stdout, r"^    ZeroDivisionError in <string>, line 1: .* please report it with this line\nnames\n$")
 
 
 if __name__ == "__main__":

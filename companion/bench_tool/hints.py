@@ -9,61 +9,97 @@ import re
 import tempfile
 import threading
 import time
-from contextlib import ExitStack, suppress
+from contextlib import AbstractContextManager, ExitStack, contextmanager, suppress
 from itertools import takewhile
 from math import prod
-from typing import Callable, Iterable, Optional
+from typing import Callable, Iterable, Iterator, Optional, Sequence
 
 from . import language
 from .grammar import Part, Reading, reserved
-from .session import Array, BenchError, Reply, Session, literal
-from .terminal import printable
-from .translate import FLOATS, KINDS, translated
+from .session import Array, BenchError, Reply, Session
+from .terminal import printable, say
+from .numpy_rules import TYPES
+from .seen import seen_by
+from .translate import FLOATS, translated
+from .trials import Trial, like
 
-SECONDS = 0.05  # for one hint
+SECONDS, MOST_SECONDS = 0.05, 3600  # for one hint: by default, and at most
 LONGEST = 400  # letters of a line of which more is said than its code
+MOST_NAMES = 12  # of a line that are looked at
 MOST_ITEMS = 2000  # of an array that is tried with its own items
 WORD = re.compile(r"(?<![\w'\"])[A-Za-z_]\w*", re.ASCII)
+WRITES = re.compile(r"\s*(set|upd)\b")
 OPERANDS = ("X[ix]", "Y[ix]", "Y[iy]", "Y[?]", "Y", "Z")
 BOUNDS = {f"{mark}{sign}{size}": (-(1 << 8 * size - 1) * (sign == "i"), (1 << 8 * size - (sign == "i")) - 1)
           for mark in ("<", ">", "|", "") for sign in "iu" for size in (1, 2, 4, 8)}
 Known = dict[str, Array]
-# Lines for which nothing else is written, and why.
-REASONS = {
-    r"(exit|quit)(\(\))?": "`exit` ends the shell; a script ends with its last line",
-    r"undo\W+\d+\W*": "`undo` takes back one change: write it once for each",
-}
 
 
 def items(count: int) -> str:
     return "1 item" if count == 1 else f"{count} items"
 
 
-class Hints(ExitStack):
-    """The hints for the refused lines of a session."""
+def seconds_of_a_hint() -> float:
+    """What BENCH_HINT_SECONDS says, or the default if that is not a number of seconds."""
+    given = os.environ.get("BENCH_HINT_SECONDS", "")
+    with suppress(ValueError):
+        if 0 <= (seconds := float(given or SECONDS)) <= MOST_SECONDS:
+            return seconds
+    say(f"bench-tool: BENCH_HINT_SECONDS is not a number from 0 to {MOST_SECONDS}: {printable(given, 60)}")
+    return SECONDS
+
+
+class Hints(AbstractContextManager["Hints"]):
+    """The hints for the refused lines of a session. They are guests of the commands that ask for them: whatever goes wrong here, there
+    is only no hint."""
 
     def __init__(self, session: Session, seconds: float = 0):
-        super().__init__()
-        self.session, self.seconds = session, seconds or float(os.environ.get("BENCH_HINT_SECONDS", SECONDS))
-        self._folder = self.enter_context(tempfile.TemporaryDirectory())
-        self._end = 0.0
-        self._spare = self._start()
+        self.session, self.seconds = session, seconds or seconds_of_a_hint()
+        self._end, self._folder, self._held = 0.0, "", ExitStack()
+        self._spare: Optional[Trial] = None
+        self.offered: list[str] = []  # the lines of the last hint
+        with suppress(Exception):
+            self._folder = self._held.enter_context(tempfile.TemporaryDirectory(prefix="bench-"))
+            self._start()
 
-    def _start(self) -> Session:
+    def _start(self) -> None:
         """Starts a second session, without waiting for it."""
-        spare = Session(self.session.program, 64, self._folder, wait=False)
-        self.callback(spare.close)
-        self.callback(spare.kill)
-        return spare
+        self._spare = None
+        self._spare = spare = Trial(self.session.program, self._folder, self.session.dir)
+        self._held.callback(spare.close)
+        self._held.callback(spare.kill)
+
+    def __exit__(self, *_: object) -> None:
+        self.close()
+
+    def close(self) -> None:
+        with suppress(Exception):
+            self._held.close()
 
     def meant(self, line: str, reply: Reply) -> list[str]:
         """The hint for a refused line, in a few lines. It takes at most `seconds`, and raises nothing."""
-        self._end = time.monotonic() + self.seconds
+        self._end, self.offered = time.monotonic() + self.seconds, []
         try:
             said = self._said(line, reply)
-        except (BenchError, OSError, ValueError, LookupError, TypeError, RecursionError):
+        except Exception:
             said = []
         return said or [language.codes()[reply.code][1]] * (reply.code in language.codes() and reply.code != "E03")
+
+    def seen(self, line: str) -> str:
+        """Who sees what an accepted line wrote. It takes about `seconds` at most, and raises nothing."""
+        self._end = time.monotonic() + self.seconds
+        with suppress(Exception):
+            if not WRITES.match(line):
+                return ""
+            index = [word for word in WORD.findall(line.partition("]")[0].partition("[")[2]) if word != "None"]
+            if not index:
+                return seen_by(self.session, line)
+            sizes = [prod(self.session.array(word, items=False).shape) for word in index]
+            if max(sizes) > MOST_ITEMS:
+                return seen_by(self.session, line)
+            with self._trial(index) as trial:
+                return seen_by(self.session, line, trial)
+        return ""
 
     def _said(self, line: str, reply: Reply) -> list[str]:
         if reply.code == "E01":
@@ -73,15 +109,19 @@ class Hints(ExitStack):
         if len(line) > LONGEST:
             return []
         names = self.session.names()
-        words = [word for word in dict.fromkeys(WORD.findall(line)) if word in set(names)][:12]
-        known = {word: self.session.array(word, items=False) for word in words}
-        if reply.code == "E03":
-            return self._of_syntax(line, names, known)
         if reply.code == "E06":
             return self._of_name(line, names)
         if reply.code == "E34":
             return self._of_file(line)
-        return [Numbers(self, line, known).said(reply.code)]
+        words = [word for word in dict.fromkeys(WORD.findall(line)) if word in set(names)][:MOST_NAMES]
+        if reply.code != "E03":
+            with suppress(BenchError), self._trial(words) as trial:
+                return [Numbers(trial, line).said(reply.code)]
+            return [Numbers(self.session, line, False).said(reply.code)]
+        said: list[str] = []
+        with suppress(BenchError), self._trial(words) as trial:  # there may be no time
+            said = self._of_syntax(line, names, trial)
+        return said or self._of_place(line, names)
 
     def _of_byte(self, line: str) -> str:
         if line.startswith(("\ufeff", "\xef\xbb\xbf", "\udcef\udcbb\udcbf")):
@@ -89,25 +129,32 @@ class Hints(ExitStack):
         at = next(k for k, letter in enumerate(line) if not (letter == "\t" or " " <= letter <= "~"))
         return f"`{printable(line[at])}` in column {at + 1}: a line has letters, digits and signs of ASCII; in b'..' write \\xhh"
 
-    def _of_syntax(self, line: str, names: list[str], known: Known) -> list[str]:
+    def _of_syntax(self, line: str, names: list[str], trial: Session) -> list[str]:
         """What to write instead of a line that is not a command, or where it stops being one."""
         bare = re.fullmatch(r"([^#'\"]*[^#\s'\"])\s*#.*", line)
-        offered = translated(bare[1] if bare else line, known, self.session.fields) or ([bare[1]] if bare else [])
-        said = ["a comment needs a line of its own"] * bool(bare)
-        said += [reason for pattern, reason in REASONS.items() if re.fullmatch(pattern, line.strip())]
-        if offered and offered[0].startswith("# "):
-            said.append(offered[0][2:])
-        elif offered and not said[bool(bare):]:
-            with suppress(BenchError):  # there was no time to try them
-                refused = next((pair for pair in zip(offered, self.tried(offered, known)) if not pair[1].accepted), None)
-                if refused is None:
-                    return said + [f"write: {text}" for text in offered]
-                if refused[1].code not in ("E03", "E34") and len(offered) > 1:
-                    said.append(f"`{refused[0]}` is then {refused[1].code} {refused[1].meaning}")
+        offer = translated(bare[1] if bare else line, trial, names)
+        self.offered = offer.lines if offer.refusal is None else []
+        if bare and not offer.lines and not offer.reasons:
+            self.offered = [bare[1]] * trial.send(bare[1]).accepted
+        said = ["a comment needs a line of its own"] * bool(bare) + offer.reasons
+        if self.offered:
+            return said + [f"write: {text}" for text in self.offered]
+        if offer.refusal is None:
+            return said + self._of_place(line, names)
+        last, code = offer.lines[-1], offer.refusal.code
+        if code == "E06":
+            return said + self._of_name(last, [*dict.fromkeys([*names, *trial.names()])])
+        why = self._of_file(last)[0] if code == "E34" else Numbers(trial, last).said(code)
+        return said + [f"`{last}` is then {code}: {why}"]
+
+    def _of_place(self, line: str, names: list[str]) -> list[str]:
+        """Where a line stops being a command."""
         reading = Reading(line, names)
+        if not reading.wanted:
+            return []
         word = re.match(r"[a-z_]{4,}|", line[reading.stop()[0]:])[0]  # type: ignore[index]
         near = [] if word in reserved() else difflib.get_close_matches(word, sorted(reserved()), 2, 0.75)
-        return [*said, *reading.place(), *[f"did you mean {' or '.join(near)}?"] * bool(near)] if reading.wanted else said
+        return [*reading.place(), *[f"did you mean {' or '.join(near)}?"] * bool(near)]
 
     def _of_name(self, line: str, names: list[str]) -> list[str]:
         """The hint for a name that is not bound."""
@@ -131,62 +178,47 @@ class Hints(ExitStack):
         until = min(self._end, time.monotonic() + self.seconds / 2)
         return next(iter(difflib.get_close_matches(word, takewhile(lambda _: time.monotonic() < until, among), 1, 0.7)), "")
 
-    def tried(self, lines: list[str], known: Known, shown: Optional[Callable[[Session], None]] = None) -> list[Reply]:
-        """The replies to lines in a session with arrays like these. `BenchError` is raised if time runs out."""
-        for name in os.listdir(self._folder):  # what an earlier trial saved or loaded
-            os.unlink(os.path.join(self._folder, name))
-        alarm = threading.Timer(max(0.001, self._end - time.monotonic()), self._spare.kill)
+    @contextmanager
+    def _trial(self, words: Sequence[str]) -> Iterator[Session]:
+        """A session with arrays like those of some names. `BenchError` is raised if time runs out."""
+        spare = self._spare
+        if spare is None:
+            raise BenchError("there is no second session")
+        alarm = threading.Timer(max(0.001, self._end - time.monotonic()), spare.kill)
         alarm.start()
         try:
-            made = sum(self._spare.send(text).accepted for array in known.values() for text in self._like(array))
-            replies = []
-            for text in lines:
-                self._link(text)
-                replies.append(self._spare.send(text))
-            made += sum(reply.text.startswith("ok ") and not reply.text.startswith("ok save") for reply in replies)
-            if shown and all(reply.accepted for reply in replies):
-                shown(self._spare)
-            for _ in range(made):
-                self._spare.send("undo")
-            return replies
-        except BenchError:
-            self._spare.kill()
-            self._spare = self._start()
+            for word in words:
+                array = self.session.array(word, items=False)
+                values = self.session.array(word).items if prod(array.shape) <= MOST_ITEMS else None
+                for text in like(array, values):
+                    spare.send(text)
+            yield spare
+            spare.clear()
+        except Exception:
+            spare.kill()
+            self._start()
             raise
         finally:
             alarm.cancel()
-
-    def _like(self, array: Array) -> list[str]:
-        """The lines that bind a name to an array like one of the session: with its type and shape, and with its items if there are few."""
-        shape = f"({','.join(map(str, array.shape))})"
-        made = f"{array.name} = zeros {array.type} {shape}"
-        if prod(array.shape) <= MOST_ITEMS:
-            text = " ".join([f"{array.name} = array {array.type} {shape}", *map(literal, self.session.array(array.name).items)])
-            made = text if len(text) <= 65_536 else made
-        return [made] + [f"{array.name} = broadcast {array.name} {shape}"] * (not array.writable)
-
-    def _link(self, line: str) -> None:
-        """Puts the file that a line loads into the spare folder."""
-        if found := re.search(r'= load "([\w.-]+)"', line):
-            path = os.path.join(os.path.abspath(self.session.dir), found[1])
-            with suppress(FileExistsError):
-                if os.path.lexists(path):
-                    os.symlink(path, os.path.join(self._folder, found[1]))
 
 
 class Numbers:
     """The types, shapes and numbers behind the refusal of a line that is a command."""
 
-    def __init__(self, hints: Hints, line: str, known: Known):
-        self.hints, self.known = hints, known
+    def __init__(self, session: Session, line: str, is_trial: bool = True):
+        self.session, self.is_trial = session, is_trial  # in a trial a name can be bound to look at it
         self.parts: list[Part] = Reading(line).parts
         self.text = {part.piece: part.text for part in self.parts}
-        self.operands = [part.text for part in self.parts if part.piece in OPERANDS and part.text.partition("[")[0].strip() in known]
+        bound = set(session.names())
+        read = [part.text for k, part in enumerate(self.parts) if part.piece not in ("X", "D") or self.parts[k + 1:k + 2] and self.parts[k + 1].piece != "="]
+        words = dict.fromkeys(word for text in read for word in WORD.findall(text) if word in bound)
+        self.known: Known = {word: session.array(word, items=False) for word in words}
+        self.operands = [part.text for part in self.parts if part.piece in OPERANDS and part.text.partition("[")[0].strip() in self.known]
 
     def said(self, code: str) -> str:
         """The numbers behind a code; or when it occurs, if that is short, and the arrays of the line."""
         reader: Callable[[], str] = getattr(self, f"_{code.lower()}", lambda: "")
-        with suppress(LookupError, TypeError):
+        with suppress(LookupError, TypeError, StopIteration):
             if told := reader():
                 return told
         when, facts = language.codes()[code][1], ", ".join(self.facts()) if "E10" <= code <= "E25" else ""
@@ -201,22 +233,26 @@ class Numbers:
         return [f"{name} is {array.type} {array.shape}" for name, array in found.items()]
 
     def array(self, operand: str) -> Array:
-        """An operand with its index as an array, as a session with such arrays shows it."""
+        """An operand with its index as an array."""
         if operand in self.known:
             return self.known[operand]
-        found: list[Array] = []
-        free = "t" if "t" not in self.known else "t_"
-        self.hints.tried([f"{free} = {operand}"], self.known, lambda spare: found.append(spare.array(free, items=False)))
-        return found[0]
+        if not self.is_trial:
+            raise LookupError(operand)
+        free = next(name for name in ("_", "__", "___") if name not in self.known)
+        if not self.session.send(f"{free} = {operand}").accepted:
+            raise LookupError(operand)
+        found = self.session.array(free, items=False)
+        self.session.send(f"del {free}")
+        return found
 
     def _e04(self) -> str:
         kind = self.text["D"]
-        return f"write {KINDS[kind]} instead of {kind}" if kind in KINDS else \
+        return f"write {TYPES[kind]} instead of {kind}" if kind in TYPES else \
             f"{printable(kind, 60)} is not a type such as <i4, |u1, |b1, |S5 or T{{<i:x:<h:y:}}"
 
     def _e05(self) -> str:
         kind = self.text["D"]
-        return f"write {KINDS[kind]} instead of {kind}" if kind in KINDS else "there are no floats" * bool(FLOATS.match(kind))
+        return f"write {TYPES[kind]} instead of {kind}" if kind in TYPES else "there are no floats" * bool(FLOATS.match(kind))
 
     def _e09(self) -> str:
         lengths = list(map(int, re.findall(r"\d+", self.text.get("S") or self.text["S-"])))
@@ -225,29 +261,63 @@ class Numbers:
         count, above = items(prod(lengths)), "16777216" if prod(lengths) > 1 << 24 else "268435456 bytes"
         return f"{count}{' of that type' * above.endswith('s')} are more than {above}"
 
-    def _e11(self) -> str:
-        """The first number that is out of range for its axis."""
-        operand = next(operand for operand in self.operands if "[" in operand and not self._is_within(operand))
-        name, _, index = operand.rstrip("] \t").partition("[")
-        entries, lengths = [entry.strip() for entry in index.split(",")], self.known[name].shape
-        masks = {name: len(array.shape) for name, array in self.known.items() if array.type == "|b1"}
-        takes = [masks.get(entry, int(entry not in ("None", "..."))) for entry in entries]
-        axis = 0
-        for k, (entry, count) in enumerate(zip(entries, takes)):
-            axis = len(lengths) - sum(takes[k:]) if entries[k - 1:k] == ["..."] else axis
-            is_array = entry in self.known and entry not in masks
-            values = self.hints.session.array(entry).items if is_array else [int(entry)] if re.fullmatch(r"[+-]?\d+", entry) else []
-            for value in values:
-                if not -lengths[axis] <= value < lengths[axis]:
-                    within = f"{-lengths[axis]} to {lengths[axis] - 1} are within" if lengths[axis] else "it has no item"
-                    return f"axis {axis} of {name} has length {lengths[axis]}: {value}{f' in {entry}' * is_array} is outside, {within}"
-            axis += count
+    def _e10(self) -> str:
+        """How many axes an index takes, and how many there are."""
+        for operand in self.operands:
+            name, _, index = operand.rstrip("] \t").partition("[")
+            entries = [entry.strip() for entry in index.split(",")]
+            taken = sum(self._takes(entry) for entry in entries)
+            if index and taken > len(self.known[name.strip()].shape):
+                return f"{self._axes(name.strip())}, and [{index}] takes {taken}"
         return ""
 
-    def _is_within(self, operand: str) -> bool:
-        with suppress(LookupError):
-            return bool(self.array(operand))
-        return False
+    def _axes(self, name: str) -> str:
+        count = len(self.known[name].shape)
+        return f"{name} has {count or 'no'} ax{'i' if count == 1 else 'e'}s"
+
+    def _takes(self, entry: str) -> int:
+        """The axes that an entry of an index takes."""
+        array = self.known.get(entry)
+        return len(array.shape) if array and array.type == "|b1" else int(entry not in ("None", "..."))
+
+    def _e12(self) -> str:
+        return "the step of arange is 0" if "s" in self.text else "the step of a slice is 0"
+
+    def _e17(self) -> str:
+        name = self.text["Y"]
+        if axes := self.text.get("(axes)"):
+            return f"{self._axes(name)}: {axes} must have each of them once"
+        count = len(self.known[name].shape)
+        return f"{self._axes(name)}: {f'an axis is {-count} to {count - 1}' if count else 'leave the axis out'}, not {self.text['[axis]']}"
+
+    def _e11(self) -> str:
+        """The first number that is out of range for its axis."""
+        return next(filter(None, map(self._outside, (operand for operand in self.operands if "[" in operand))), "")
+
+    def _outside(self, operand: str) -> str:
+        """The first number of an index that is out of range for its axis. The numbers of a large index array are not looked at: if no
+        other is out of range, one of them is."""
+        name, _, index = operand.rstrip("] \t").partition("[")
+        entries, lengths = [entry.strip() for entry in index.split(",")], self.known[name.strip()].shape
+        takes = [self._takes(entry) for entry in entries]
+        axis, large = 0, []
+        for k, (entry, count) in enumerate(zip(entries, takes)):
+            axis = len(lengths) - sum(takes[k:]) if entries[k - 1:k] == ["..."] else axis
+            length = lengths[axis] if count else 0
+            within = f"{-length} to {length - 1} are within" if length else "it has no item"
+            is_array = entry in self.known and self.known[entry].type != "|b1"
+            if is_array and prod(self.known[entry].shape) > MOST_ITEMS:
+                large.append(f"axis {axis} of {name} has length {length}: a number in {entry} is outside, {within}")
+            values = self._numbers(entry) if is_array else [int(entry)] if re.fullmatch(r"[+-]?\d+", entry) else []
+            for value in values:
+                if not -length <= value < length:
+                    return f"axis {axis} of {name} has length {length}: {value}{f' in {entry}' * is_array} is outside, {within}"
+            axis += count
+        return large[0] if len(large) == 1 else ""
+
+    def _numbers(self, name: str) -> Sequence[int]:
+        """The numbers of an index array, unless there are many."""
+        return self.session.array(name).items if prod(self.known[name].shape) <= MOST_ITEMS else []
 
     def _e16(self) -> str:
         shapes = {operand: self.array(operand).shape for operand in self.operands}
@@ -267,7 +337,7 @@ class Numbers:
 
     def _e19(self) -> str:
         name = self.text["Y"]
-        fields = self.hints.session.fields(name)
+        fields = self.session.fields(name)
         return f"{name} has the field{'s' * (len(fields) > 1)} {' '.join(fields)}" if fields else f"{self.facts()[0]}, which has no fields"
 
     def _e21(self) -> str:

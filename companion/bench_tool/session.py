@@ -116,7 +116,7 @@ def literal(item: Any) -> str:
 
 def sent_of(line: Line) -> bytes:
     """A line as it is sent."""
-    sent = line.encode("utf-8", "surrogateescape") if isinstance(line, str) else bytes(line)
+    sent = line.encode("utf-8", "surrogateescape") if isinstance(line, str) else bytes(memoryview(line))
     if b"\n" in sent:
         raise ValueError("send one line at a time: this one contains a newline")
     return sent
@@ -129,9 +129,10 @@ def reply_of(told: Union[bytes, bytearray]) -> Reply:
 
 
 def find_program() -> str:
-    """The command that starts the program: BENCH if it is set, else the launcher of the repository or the installed one."""
-    top = Path(__file__).resolve().parents[2]
-    places = map(str, (top / "bench", top.parent / "bin/bench", "bench"))
+    """The command that starts the program: BENCH if it is set, else the launcher of the wheel, of the repository or the installed one."""
+    here = Path(__file__).resolve()
+    top = here.parents[2]
+    places = map(str, (here.with_name("bench"), top / "bench", top.parent / "bin/bench", "bench"))
     found = os.environ.get("BENCH") or next(filter(None, map(shutil.which, places)), None)
     if not found:
         raise ProgramMissing("there is no program: BENCH is not set, and none is installed or built")

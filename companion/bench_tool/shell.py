@@ -3,6 +3,7 @@ import argparse
 import os
 import re
 import signal
+import stat
 import sys
 import tempfile
 import threading
@@ -14,11 +15,11 @@ from itertools import combinations
 from pathlib import Path
 from typing import Callable, Iterator, Optional
 
-from . import __version__, language, page
-from .grammar import ARGUMENT, ARRAY, COMMAND, OPERATION, ORDER, TYPE, VERB, Reading
+from . import __version__, language, page, whole
+from .grammar import ARGUMENT, ARRAY, COMMAND, ENTRY, FIELD, FILE, OPERATION, ORDER, TYPE, VERB, Reading
 from .hints import Hints
-from .session import BenchError, ProgramEnded, Session
-from .terminal import BLUE, RED, Window, lines_of, painted, printable, room, say
+from .session import BenchError, ProgramEnded, Reply, Session
+from .terminal import BLUE, RED, Window, defect, lines_of, painted, printable, room, say
 
 try:
     import readline
@@ -28,6 +29,7 @@ except ImportError:  # a Python without them has a prompt without editing
 
 PROMPT = "bench> "
 PATIENCE = 0.5  # seconds that a line has to end of itself after Ctrl-C
+DROPPED = "# dropped"  # what Ctrl-C makes of a line: a comment
 ENDS = ("exit", "quit", "exit()", "quit()", ".exit", ".quit")
 TYPES = ["|b1", "|i1", "<i2", "<i4", "<i8", "|u1", "<u2", "<u4", "<u8", "|S8", "T{<i:x:<h:y:}"]
 CHANGES_NO_NAME = re.compile(r"\s*(save|print|info|format|names|shares)\b")
@@ -92,26 +94,46 @@ class Keys:
             readline.parse_and_bind(setting)
         readline.set_completer_delims(" \t=[](),:\"")
         readline.set_completer(complete)
+        readline.set_auto_history(False)
         readline.set_history_length(2000)
+        self._typed: list[str] = []
         with suppress(OSError):
             os.makedirs(os.path.dirname(self._path), exist_ok=True)
             readline.read_history_file(self._path)
 
     def read(self, prompt: str) -> str:
-        """The next line, or an empty one if Ctrl-C ended it."""
+        """The next line, or a comment if Ctrl-C ended it."""
         termios.tcsetattr(0, termios.TCSADRAIN, self._without)
         try:
             line = input(prompt)
         finally:
             termios.tcsetattr(0, termios.TCSADRAIN, self._usual)
-        if self._key.decode("latin-1") not in line:
-            return line
-        readline.remove_history_item(readline.get_current_history_length() - 1)
-        return ""
+        if self._key.decode("latin-1") in line:
+            return DROPPED
+        self.offer([line], True)
+        return line
+
+    def offer(self, lines: list[str], is_typed: bool = False) -> None:
+        """Puts lines where Up finds them; those that were typed are also kept for the next shell."""
+        for line in lines:
+            count = readline.get_current_history_length()
+            if line and not (count and readline.get_history_item(count) == line):
+                readline.add_history(line)
+                self._typed += [line] * is_typed
 
     def close(self) -> None:
+        """Appends the lines to the history, to which other shells append too."""
+        readline.clear_history()
+        for line in self._typed:
+            readline.add_history(line)
         with suppress(OSError):
-            readline.write_history_file(self._path)
+            open(self._path, "a").close()
+            readline.append_history_file(len(self._typed), self._path)
+
+
+def without_waiting(path: str, flags: int) -> int:
+    """Opens a file, also a pipe that nobody writes to."""
+    return os.open(path, flags | os.O_NONBLOCK | os.O_NOCTTY)
 
 
 def history() -> str:
@@ -132,14 +154,16 @@ class Shell:
         self.changes: deque[str] = deque(maxlen=words.undo)
         self.found: list[str] = []
         self.read: Callable[[str], str] = input
+        self.offered: list[str] = []  # the lines that Enter on an empty line runs
+        self.offer: Callable[[list[str], bool], None] = lambda *_: None
         self.interrupts = Interrupts()
         if is_terminal:
             self.interrupts.listen()
         self.begin()
 
-    def begin(self) -> None:
+    def begin(self, wait: bool = False) -> None:
         """Starts a new program, without names."""
-        self.session = Session(undo=self.words.undo, dir=self.words.dir, wait=False)
+        self.session = Session(undo=self.words.undo, dir=self.words.dir, wait=wait)
         self.hints = Hints(self.session)
 
     def close(self) -> None:
@@ -153,28 +177,37 @@ class Shell:
                 for line in self.read(PROMPT if self.is_terminal else "").split("\n"):  # several may be pasted at once
                     if line.strip() in ENDS:
                         return
-                    self.answer(line)
+                    self.take() if self.offered and not line else self.answer(line)
         print(end="\n" if self.is_terminal else "")
 
+    def take(self) -> None:
+        """Runs the lines that were offered."""
+        lines = self.offered
+        self.offer(lines, True)
+        for line in lines:
+            print(PROMPT + line)
+            self.answer(line)
+
     def answer(self, line: str) -> None:
-        """Carries out a line. If Ctrl-C stopped the program, the accepted lines run again in a new one."""
-        begun = time.perf_counter()
+        """Carries out a line. If Ctrl-C stopped the program, or it ended, the accepted lines run again in a new one."""
+        begun, ended, self.offered = time.perf_counter(), "", []
         try:
             with self.interrupts.during(self.session.kill):
                 self.does(line)
-        except ProgramEnded:
-            if not self.interrupts.is_stopped:
-                raise
-        except Exception as fault:
+        except ProgramEnded as fault:
+            ended = printable(str(fault))
+        except (BenchError, OSError) as fault:
             print(f"    {printable(str(fault))}")
-        if self.interrupts.is_stopped:
-            self.again()
+        except Exception as fault:
+            print(f"    {printable(defect(fault), 500)}")
+        if ended or self.interrupts.is_stopped:
+            self.again("the program was stopped" if self.interrupts.is_stopped else ended)
         if self.is_timed:
             print(f"    {(time.perf_counter() - begun) * 1e3:.3f} ms")
         sys.stdout.flush()
 
     def does(self, line: str) -> None:
-        bare = line.strip()
+        bare = re.sub(r"^help\s*\(\s*[\"']?(\w*)[\"']?\s*\)$", r"help \1", line.strip())
         first, _, rest = bare.partition(" ")
         if first == ".help" or first == "help" and not rest.lstrip().startswith(("=", "[")):
             print(language.help_text(rest.strip(), room()[1] * self.is_terminal) + f"\n{DOTS}" * (not rest))
@@ -208,47 +241,89 @@ class Shell:
         if not reply.accepted:
             for text in self.hints.meant(line, reply):
                 self.note(place + text)
+            if self.is_terminal and self.hints.offered and not place:
+                self.offered = self.hints.offered
+                self.offer(self.offered, False)
+                self.note(f"(Enter runs {'it' if len(self.offered) == 1 else 'them'}, Up edits)")
         elif reply.text:
-            self.log.append(line)
-            if reply.text == "ok undo" and self.changes:
-                taken = self.changes.pop()
-                self.note(f"(took back: {printable(taken, 200)})" if self.is_terminal else "")
-            elif reply.text.startswith("ok ") and not reply.text.startswith("ok save"):
-                self.changes.append(line)
+            taken = self.keep(line, reply)
+            self.note(f"(took back: {printable(taken, 200)})" if taken and self.is_terminal else "")
+            self.note(self.hints.seen(line) if reply.text not in ("ok set 0", "ok upd 0") else "")
+
+    def keep(self, line: str, reply: Reply) -> str:
+        """Notes an accepted line, and returns the line that it took back."""
+        self.log.append(line)
+        if reply.text == "ok undo" and self.changes:
+            return self.changes.pop()
+        if reply.text.startswith("ok ") and not reply.text.startswith("ok save"):
+            self.changes.append(line)
+        return ""
 
     def note(self, text: str) -> None:
         """Prints a note next to a reply."""
         print(painted(f"    {text}", BLUE) + "\n" if text else "", end="", flush=True)
 
-    def again(self) -> None:
+    def again(self, why: str) -> None:
         """Starts a new program and runs the accepted lines again. Ctrl-C asks whether to give them up."""
+        print(end="\n" * self.is_terminal)  # behind the sign of Ctrl-C
         is_whole = False
         while not is_whole:
-            with self.interrupts.during(lambda: self.session.kill()), suppress(ProgramEnded):
-                print()
-                self.note("(the program was stopped; the lines before this one are run again)")
-                self.close()
-                self.begin()
-                for line in self.log:
-                    if not self.interrupts.is_noted and not CHANGES_NO_NAME.match(line) and not self.session.send(line).accepted:
-                        self.note(f"(refused now: {printable(line, 200)})")
-            is_whole = not self.interrupts.is_noted
-            if not is_whole and self.read("    give up the names (y or n)? ").startswith("y"):
+            self.note(f"({why}; the lines before this one are run again)")
+            try:
+                with self.interrupts.during(lambda: self.session.kill()):
+                    self.close()
+                    self.begin(wait=True)
+                    why = self.repeated()
+            except ProgramEnded:
+                if not self.interrupts.is_stopped:
+                    raise
+            is_whole = not why and not self.interrupts.is_noted
+            if self.interrupts.is_noted and self.read("    give up the names (y or n)? ").startswith("y"):
                 self.log.clear()
                 self.changes.clear()
 
+    def repeated(self) -> str:
+        """Runs the accepted lines in the new program. If it ends in one of them, that line is given up, and the text says so."""
+        lines, self.log = deque(self.log), []
+        self.changes.clear()
+        try:
+            while lines and not self.interrupts.is_noted:
+                self.repeat(lines[0])
+                lines.popleft()
+        except ProgramEnded as fault:
+            if self.interrupts.is_stopped:
+                raise
+            return f"{printable(str(fault))} in `{printable(lines.popleft(), 200)}`, which is given up"
+        finally:
+            self.log += lines
+        return ""
+
+    def repeat(self, line: str) -> None:
+        """Runs an accepted line again, unless it is only a question."""
+        if CHANGES_NO_NAME.match(line):
+            self.log.append(line)
+            return
+        reply = self.session.send(line)
+        self.keep(line, reply)
+        if not reply.accepted:
+            self.note(f"(refused now: {printable(line, 200)})")
+
     def dot_read(self, file: str) -> None:
-        with open(os.path.expanduser(file), "rb") as script:
+        with open(os.path.expanduser(file), "rb", opener=without_waiting) as script:
+            if not stat.S_ISREG(os.fstat(script.fileno()).st_mode):
+                raise BenchError(f"{file} is not a regular file")
             for number, line in enumerate(lines_of(script), 1):
-                if not self.interrupts.is_noted:
-                    self.send(line.decode("utf-8", "surrogateescape"), f"{printable(file)}:{number}: ")
+                if self.interrupts.is_noted:
+                    break
+                self.send(line.decode("utf-8", "surrogateescape"), f"{printable(file)}:{number}: ")
 
     def script(self) -> bytes:
         """The accepted lines."""
         return b"".join(line.encode("utf-8", "surrogateescape") + b"\n" for line in self.log)
 
     def dot_save(self, file: str) -> None:
-        Path(os.path.expanduser(file)).write_bytes(self.script())
+        with whole.replaced(os.path.expanduser(file)) as script:
+            script.write(self.script())
         print(f"    wrote {len(self.log)} lines to {printable(file)}")
 
     def dot_names(self, _: str) -> None:
@@ -286,22 +361,24 @@ class Shell:
         return self.found[state] if state < len(self.found) else None
 
     def words_at(self, before: str) -> list[str]:
-        """What could come after a text: fields and files between quotes, otherwise what the grammar allows."""
-        said = before.replace("=", " = ").split()
-        if before.count('"') % 2:
-            if "field" in said:
-                return self.session.fields(said[said.index("field") + 1])
-            return sorted(entry.name for entry in os.scandir(self.words.dir) if entry.is_file() and entry.name[0] not in ".-")
-        if said == ["help"]:
+        """What could come after a text, by the grammar: between quotes the fields of the array before them, or files."""
+        if before.strip() == "help":
             return sorted({*language.verbs(False), *language.verbs(True), *language.codes()})
-        names, reading = self.session.names(), Reading(before)
+        begin = before[:before.rindex('"')] if before.count('"') % 2 else before
+        reading = Reading(begin)
+        wanted = reading.wanted if reading.far >= len(begin.rstrip()) else {}
+        if begin != before:
+            return self.session.fields(begin.split()[-1]) if FIELD in wanted else self.files() if FILE in wanted else []
+        names = self.session.names()
         firsts = sorted(["help", "quit", *language.verbs(False)])
         words = {COMMAND: [*(f"{verb} " for verb in firsts), *names], VERB: [*(f"{verb} " for verb in language.verbs(True)), *names],
-                 ARRAY: names, ARGUMENT: names, TYPE: TYPES, OPERATION: [f"{verb} " for verb in language.operations()["OP"]],
+                 ARRAY: names, ARGUMENT: names, ENTRY: names, TYPE: TYPES, OPERATION: [f"{verb} " for verb in language.operations()["OP"]],
                  ORDER: ["C", "F"], "keep": ["keep"]}
-        inside = names if before.rfind("[") > before.rfind("]") else []
-        wanted = reading.wanted if reading.far >= len(before.rstrip()) else []
-        return [*dict.fromkeys([word for what in wanted for word in words.get(what, [])] + inside)]
+        return [*dict.fromkeys(word for what in wanted for word in words.get(what, []))]
+
+    def files(self) -> list[str]:
+        """The files that could be loaded."""
+        return sorted(entry.name for entry in os.scandir(self.words.dir) if entry.is_file() and entry.name[0] not in ".-")
 
 
 def shell(words: argparse.Namespace) -> int:
@@ -315,6 +392,6 @@ def shell(words: argparse.Namespace) -> int:
             print(f"bench {__version__}: help lists the commands, Tab completes; exit or Ctrl-D ends")
             keys = Keys(prompt.complete)
             held.callback(keys.close)
-            prompt.read = keys.read
+            prompt.read, prompt.offer = keys.read, keys.offer
         prompt.loop()
     return 0
