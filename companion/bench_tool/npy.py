@@ -2,10 +2,13 @@
 from __future__ import annotations
 
 import io
+from ast import literal_eval
 from functools import lru_cache
 from typing import Any
 
 import numpy as np
+
+from .header import Wrong, check_type
 
 npy: Any = np.lib.format  # its functions have no types
 
@@ -25,18 +28,26 @@ def laid_out(array: "np.ndarray[Any, Any]") -> "tuple[bytes, np.ndarray[Any, Any
     return head.getvalue(), items
 
 
+def lacking(dtype: "np.dtype[Any]") -> str:
+    """What bench does not have of a dtype, in words; nothing if it has all of it."""
+    try:
+        check_type(npy.dtype_to_descr(dtype))
+    except Wrong as wrong:
+        return f": {wrong}"
+    return ""
+
+
 @lru_cache(maxsize=64)
-def _fields(header: bytes) -> "tuple[tuple[int, ...], bool, np.dtype[Any]]":
-    """The shape, whether the order is Fortran order, and the type in a header."""
-    begin = io.BytesIO(header)
-    version = npy.read_magic(begin)
-    found: "tuple[tuple[int, ...], bool, np.dtype[Any]]" = (npy.read_array_header_1_0 if version == (1, 0) else npy.read_array_header_2_0)(begin)
-    return found
+def _fields(text: bytes) -> "tuple[tuple[int, ...], bool, np.dtype[Any]]":
+    """The shape, whether the order is Fortran order, and the type in the text of a header. NumPy's own reader refuses a text of more than
+    10,000 bytes."""
+    header = literal_eval(text.decode("latin-1"))
+    return header["shape"], header["fortran_order"], npy.descr_to_dtype(header["descr"])
 
 
 def over(file: "np.ndarray[Any, Any]") -> "np.ndarray[Any, Any]":
     """The array of an NPY file, without a copy of the file's bytes."""
     behind = 10 if file[6] == 1 else 12  # the length of the text, in two bytes or four
     start = behind + int.from_bytes(file[8:behind].tobytes(), "little")
-    shape, fortran, dtype = _fields(file[:start].tobytes())
+    shape, fortran, dtype = _fields(file[behind:start].tobytes())
     return np.ndarray(shape, dtype, file.data, start, order="F" if fortran else "C")

@@ -37,6 +37,9 @@ def lines(script: BinaryIO, session: Session, words: argparse.Namespace, hints: 
         codes[reply.code] += bool(reply.text)
         if reply.text and words.time:
             say(f"{took * 1e3:10.3f} ms  {number:5}  {shown(line)}")
+        if words.explain and reply.accepted and reply.text not in ("ok set 0", "ok upd 0"):
+            seen = hints.seen(line.decode("ascii", "replace"))
+            say(f"{name}:{number}: {seen}") if seen else None
         if not reply.accepted:
             refused = sum(codes.values()) - codes[""]
             refusal(hints, f"{name}:{number}:", line, reply, refused <= MOST_NOTES)
