@@ -3,13 +3,26 @@ import { Bench, load } from "./bench.mjs";
 import { Trace, freeName, range } from "./trace.mjs";
 import { bytesIn, cut, huesOf, said, seenAt, tablesOf } from "./picture.mjs";
 import { STYLE, escape, figure, picture } from "./svg.mjs";
-import { Language, inNumPy } from "./language.mjs";
+import { Language } from "./language.mjs";
+import { inNumPy } from "./numpy.mjs";
 
-const MOST_LINK = 8192, SLICE = 12, MOST_KEPT = 64 << 20; // bytes of a link; milliseconds of work in one go; bytes of memory that are kept to go back to
+const MOST_LINK = 8192, MOST_SCRIPT = 1 << 20, MOST_LINES = 200, MOST_ITEMS = 100_000, MOST_TYPED = 1 << 16, SLICE = 12, MOST_KEPT = 64 << 20; // bytes of a link, and of the script in it; lines and items of a script of a link that runs at once; letters that are put in as if typed; milliseconds of work in one go; bytes of memory that are kept to go back to
 const at = id => document.getElementById(id), json = id => JSON.parse(at(id).textContent || "null") ?? {};
-const ui = Object.fromEntries([..."script shown examples open chosen link numpy svg note offers files back slider on line reply hint words pictures lit all cells more editor".split(" ")].map(id => [id, at(id)]));
+const ui = Object.fromEntries([..."script shown examples open chosen keep link numpy svg note offers files back slider on line reply hint words pictures lit all cells more editor".split(" ")].map(id => [id, at(id)]));
 const language = new Language(json("tables")), given = json("given"), files = new Map();
-const unpacked = async (text, form) => new Uint8Array(await new Response(new Blob([Uint8Array.fromBase64?.(text) ?? Uint8Array.from(atob(text), letter => letter.charCodeAt(0))]).stream().pipeThrough(new DecompressionStream(form))).arrayBuffer());
+const bytesOf64 = text => Uint8Array.fromBase64?.(text) ?? Uint8Array.from(atob(text), letter => letter.charCodeAt(0));
+
+/** The bytes of a packed text. It throws if the text is cut, or if there are more bytes than `most`. */
+async function unpacked(text, form, most = Infinity) {
+  const parts = [], reader = new Blob([bytesOf64(text)]).stream().pipeThrough(new DecompressionStream(form)).getReader();
+  let size = 0;
+  for (let part = await reader.read(); !part.done; part = await reader.read()) {
+    size += part.value.length;
+    if (size > most) throw new RangeError("too long");
+    parts.push(part.value);
+  }
+  return new Uint8Array(await new Blob(parts).arrayBuffer());
+}
 const made = (tag, text, more = {}) => Object.assign(document.createElement(tag), { textContent: text, ...more });
 const sheet = new CSSStyleSheet();
 document.adoptedStyleSheets = [sheet];
@@ -50,7 +63,7 @@ class Run {
     const { memory, rooms, count, state, back, focus, made: buffers } = this.kept, { trace } = this;
     new Uint8Array(this.calls.memory.buffer).set(memory);
     Object.assign(trace.bench, rooms[0]), Object.assign(trace.second, rooms[1]);
-    Object.assign(trace, { state, kept: [...back], focus, made: buffers, lines: count });
+    Object.assign(trace, { state, kept: [...back], focus, made: buffers, lines: count, isBlind: false });
     this.moments.length = count;
   }
 
@@ -82,7 +95,7 @@ class Run {
   }
 }
 
-let run, current = 0, drawn = null, generation = 0, cursor = null;
+let isWriting = false, isHeld = false, run, current = 0, drawn = null, generation = 0, cursor = null;
 
 // ---- the script
 
@@ -109,16 +122,16 @@ function coloured(line, moment) {
   return `${html.join("")}<span class="r">${escape(cut(told.replace(/\s*\n\s*/g, " "), 160))}</span>`;
 }
 
-/** Writes the lines in colours, each with its reply. Only those that differ are written. */
+/** Writes the lines in colours, each with its reply. A line is written again only if its text, its moment or its colours have changed. */
 function paint() {
-  const lines = ui.script.value.split("\n");
-  while (ui.shown.children.length > lines.length) ui.shown.lastChild.remove();
-  while (ui.shown.children.length < lines.length) ui.shown.append(made("div", ""));
+  const lines = ui.script.value.split("\n"), shown = [...ui.shown.children];
+  for (const spare of shown.splice(lines.length)) spare.remove();
+  if (shown.length < lines.length) ui.shown.append(...range(shown.length, lines.length).map(k => (shown[k] = made("div", ""))));
   for (const [k, line] of lines.entries()) {
-    const moment = run?.moments[k]?.line === line || run?.lines[k] === line ? run.moments[k] : undefined, shown = ui.shown.children[k], html = coloured(line, moment) || "\u200b";
+    const row = shown[k], moment = run?.lines[k] === line ? run.moments[k] : undefined;
+    if (row.text !== line || row.moment !== moment) [row.text, row.moment, row.innerHTML] = [line, moment, coloured(line, moment) || "\u200b"];
     const look = `l${moment && !moment.reply.accepted ? " no" : ""}${k === current ? " here" : ""}`;
-    if (shown.html !== html) shown.innerHTML = shown.html = html;
-    if (shown.className !== look) shown.className = look;
+    if (row.className !== look) row.className = look;
   }
 }
 
@@ -220,18 +233,28 @@ function listFiles() {
   ui.files.replaceChildren(...(links.length + given_.length ? ["Files: ", ...given_, ...links] : []));
 }
 
+/** The name of a file in the language: 1 to 64 letters, digits, `.`, `_` and `-`, and no `.` in front. */
+function speltName(name) {
+  const spelt = name.normalize("NFKD").replace(/[^\w.-]+/g, "_").replace(/^\./, "_");
+  const end = /\.\w{1,8}$/.exec(spelt)?.[0] ?? "";
+  return spelt.length <= 64 ? spelt || "_" : spelt.slice(0, 64 - end.length) + end;
+}
+
 async function take(list) {
   for (const file of list) {
-    if (file.name.endsWith(".bench")) { write(await file.text()); continue; }
-    files.set(file.name, new Uint8Array(await file.arrayBuffer()));
-    note(`load "${file.name}" reads it`);
+    if (file.name.endsWith(".bench")) { replace(await file.text()); continue; }
+    const name = speltName(file.name);
+    files.set(name, new Uint8Array(await file.arrayBuffer()));
+    note(`load "${name}" reads it`);
   }
   start(true);
 }
 
-function note(text) {
-  ui.note.textContent = text;
-  setTimeout(() => { if (ui.note.textContent === text) ui.note.textContent = ""; }, 6000);
+/** Says something for some seconds, with a button for longer. */
+function note(text, ...buttons) {
+  const shown = made("span", text);
+  ui.note.replaceChildren(shown, ...buttons);
+  setTimeout(() => { if (shown.parentNode) ui.note.replaceChildren(); }, buttons.length ? 60_000 : 6000);
 }
 
 async function copy(text, told) {
@@ -244,17 +267,22 @@ async function linkOf(text) {
   return `${location.href.split("#")[0]}#script=${letters}&line=${current + 1}`;
 }
 
-/** The script and the line of a link. */
+/** The script and the line of a link, and what is wrong with it. */
 async function linked() {
   const [, packed] = /[#&]script=([\w-]+)/.exec(location.hash) ?? [], [, line] = /(?:#|&line=)(\d+)$/.exec(location.hash) ?? [];
-  const text = packed && new TextDecoder().decode(await unpacked(packed.replaceAll("-", "+").replaceAll("_", "/"), "deflate-raw").catch(() => new Uint8Array()));
-  return { text, line: Number(line) || 0 };
+  if (!packed) return { line: Number(line) || 0 };
+  try {
+    const bytes = await unpacked(packed.replaceAll("-", "+").replaceAll("_", "/"), "deflate-raw", MOST_SCRIPT);
+    return { text: new TextDecoder().decode(bytes), line: Number(line) || 0 };
+  } catch (fault) {
+    return { line: 0, fault: fault instanceof RangeError ? "The script of the link is longer than a megabyte. It was not opened." : "The link is cut or damaged: its script cannot be read." };
+  }
 }
 
-/** The script in the lines of NumPy, as far as there are some. */
-function numpyText() {
-  const lines = run.moments.map(({ line, reply }) => !line.trim() || line.trim()[0] === "#" ? line : reply.accepted && inNumPy(line) || `# ${line}`);
-  return ["import numpy as np", ...lines, ""].join("\n");
+/** Whether a script of a link might run long: it has many lines, or numbers that make large arrays. */
+function mightRunLong(text) {
+  const lists = text.match(/[(][\d, ]*[)]|\d+/g) ?? [];
+  return linesOf(text).length > MOST_LINES || lists.some(list => list.match(/\d+/g)?.reduce((items, length) => items * Number(length), 1) > MOST_ITEMS);
 }
 
 // ---- what happens
@@ -263,6 +291,8 @@ function numpyText() {
 async function start(isNew = false, line = caretLine()) {
   const mine = ++generation, text = ui.script.value;
   if (isNew) run.trace = null;
+  isHeld = false;
+  keepScript();
   paint();
   const isWhole = await run.run(text, () => {
     if (mine === generation && run.moments.length > line) show(line);
@@ -274,13 +304,40 @@ async function start(isNew = false, line = caretLine()) {
   document.body.dataset.ran = mine;
 }
 
+// The script is kept in the browser, by the address of the page, with the script that the page came with.
+const PLACE = `bench ${location.pathname}`, origin = given.script ?? "";
+function kept() {
+  try {
+    const { from, text } = JSON.parse(localStorage.getItem(PLACE)) ?? {};
+    return from === origin ? text : undefined;
+  } catch { return undefined; }
+}
+function keepScript() {
+  try { localStorage.setItem(PLACE, JSON.stringify({ from: origin, text: ui.script.value })); } catch { /* no storage, or none left: the script is kept by "Save script" alone */ }
+}
+
+/** Puts a script in the place of the one that is there. Ctrl-Z and a button bring that one back. */
+function replace(text) {
+  const before = ui.script.value;
+  ui.script.focus({ preventScroll: true });
+  ui.script.select();
+  isWriting = true;
+  if (text.length > MOST_TYPED || !document.execCommand("insertText", false, text)) ui.script.value = text;
+  isWriting = false;
+  moveTo(linesOf(text).length - 1);
+  if (!before.trim() || before === text) return;
+  note("", made("button", "Bring back the script from before", { type: "button", onclick: () => { replace(before); start(); } }));
+}
+
 function write(text) {
   ui.script.value = text;
   moveTo(linesOf(text).length - 1);
 }
 
+const save = (name, text, type) => made("a", "", { download: name, href: URL.createObjectURL(new Blob([text], { type })) }).click();
 const went = line => { if (line !== current && run.moments[line]) show(line); };
-ui.script.addEventListener("input", () => start());
+ui.script.addEventListener("input", () => { if (!isWriting) start(); });
+ui.keep.addEventListener("click", () => save("script.bench", ui.script.value, "text/plain"));
 document.addEventListener("selectionchange", () => { if (document.activeElement === ui.script && run) { went(caretLine()); offer(); } });
 ui.script.addEventListener("keydown", event => {
   if (event.key === "Escape") ui.script.dataset.leaves = "yes";
@@ -312,7 +369,7 @@ for (const kind of ["pointerover", "click"]) ui.pictures.addEventListener(kind, 
 ui.all.addEventListener("change", () => draw(run.moments[current]));
 ui.cells.addEventListener("toggle", () => { if (ui.cells.open && drawn) cells(); });
 addEventListener("resize", () => { if (run?.moments[current]) draw(run.moments[current]); });
-ui.examples.addEventListener("change", () => { if (language.examples[ui.examples.value]) { write(language.examples[ui.examples.value]); start(); } });
+ui.examples.addEventListener("change", () => { if (language.examples[ui.examples.value]) { replace(language.examples[ui.examples.value]); start(); } });
 ui.open.addEventListener("click", () => ui.chosen.click());
 ui.chosen.addEventListener("change", () => take(ui.chosen.files));
 for (const kind of ["dragover", "dragleave", "drop"]) addEventListener(kind, event => {
@@ -324,25 +381,56 @@ ui.link.addEventListener("click", async () => {
   const link = await linkOf(ui.script.value);
   await copy(link, link.length > MOST_LINK ? `The link has ${link.length} letters: some programs cut links above 8 KB.` : "The link is copied; it carries the script, but no files.");
 });
-ui.numpy.addEventListener("click", () => copy(numpyText(), "The script is copied in NumPy's lines; a line without one is a comment."));
+ui.numpy.addEventListener("click", () => copy(inNumPy(run.moments), "The script is copied in NumPy's lines; a line without one is a comment."));
 ui.svg.addEventListener("click", () => {
   const { moment, tables } = drawn, text = picture(moment.line, tables, said(moment));
-  made("a", "", { download: `line-${moment.number}.svg`, href: URL.createObjectURL(new Blob([text], { type: "image/svg+xml" })) }).click();
+  save(`line-${moment.number}.svg`, text, "image/svg+xml");
 });
-addEventListener("hashchange", async () => {
-  const { text, line } = await linked();
-  if (text && text !== ui.script.value) { write(text); await start(); }
-  if (line) goTo(line - 1);
-});
+/** Shows the script of a link. It runs at once only if it cannot run long. */
+async function open({ text, line, fault }) {
+  if (fault) note(fault);
+  if (text === undefined || text === ui.script.value) { if (line) goTo(line - 1); return; }
+  replace(text);
+  if (!mightRunLong(text)) { await start(false, line ? line - 1 : caretLine()); if (line) goTo(line - 1); return; }
+  hold();
+}
 
-dress(32);
-for (const name of Object.keys(language.examples)) ui.examples.append(made("option", name, { value: name }));
-for (const [name, text] of Object.entries(given.files ?? {})) files.set(name, Uint8Array.from(atob(text), letter => letter.charCodeAt(0)));
-const asked = await linked();
-if (given.title) document.title = `${given.title} - bench`;
-write(asked.text ?? given.script ?? language.examples.mirrored);
-if (given.script === undefined) ui.script.focus({ preventScroll: true });
-else document.body.classList.add("drawn");
-run = window.bench = new Run(await WebAssembly.compile(await unpacked(at("program").textContent, "gzip")), given.undo ?? 16);
-await start(false, (asked.line || given.line || linesOf(ui.script.value).length) - 1);
-goTo(current);
+/** Shows a script without running it, with a button that does. */
+function hold() {
+  isHeld = true;
+  generation += 1;
+  paint();
+  ui.words.replaceChildren("This script came with a link and might run long. ", made("button", "Run it", { type: "button", onclick: () => start() }));
+}
+
+/** The line that shows most of a script: the last one that writes to memory that several names see. */
+function tellingLine(moments) {
+  const found = moments.findLastIndex(({ written, after }) => [...written.keys()].some(number => after.inside(number).length > 1));
+  return found < 0 ? moments.length - 1 : found;
+}
+
+/** What the page needs and the browser lacks. */
+const lacking = () => [["WebAssembly", globalThis.WebAssembly], ["DecompressionStream", globalThis.DecompressionStream]].filter(([, has]) => !has).map(([name]) => name);
+
+addEventListener("hashchange", async () => open(await linked()));
+
+async function begin() {
+  dress(32);
+  if (!globalThis.CompressionStream) Object.assign(ui.link, { disabled: true, title: "This browser has no CompressionStream" });
+  for (const name of Object.keys(language.examples)) ui.examples.append(made("option", name, { value: name }));
+  for (const [name, text] of Object.entries(given.files ?? {})) files.set(name, bytesOf64(text));
+  const asked = await linked();
+  if (given.title) document.title = `${given.title} - bench`;
+  write(asked.text ?? kept() ?? given.script ?? language.examples.mirrored);
+  if (given.script === undefined) ui.script.focus({ preventScroll: true });
+  else document.body.classList.add("drawn");
+  run = window.bench = new Run(await WebAssembly.compile(await unpacked(at("program").textContent, "gzip")), given.undo ?? 16);
+  if (asked.fault) note(asked.fault);
+  if (asked.text !== undefined && mightRunLong(asked.text)) { hold(); return; }
+  await start(false, (asked.line || given.line || linesOf(ui.script.value).length) - 1);
+  goTo(asked.line || given.line ? current : tellingLine(run.moments));
+}
+
+const missing = lacking();
+if (missing.length) ui.words.textContent = `This browser has no ${missing.join(" and no ")}, which the page needs. (Some browsers switch WebAssembly off in a protected mode.)`;
+else await begin();

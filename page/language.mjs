@@ -1,50 +1,7 @@
-// What a line says, by the tables of docs/LANGUAGE.md: its colours, what may stand at a place, what is said of a refusal, and NumPy's line.
+// What a line says, by the tables of docs/LANGUAGE.md: its colours, what may stand at a place, and what is said of a refusal.
 
-const NESTED = [1, 2, 3, 4].reduce(inner => `\\((?:[^()]|${inner})*\\)`, "\\([^()]*\\)");
-const LITERAL = `[+-]?\\d+|True|False|b'(?:[^'\\\\]|\\\\x[0-9A-Fa-f]{2})*'|${NESTED}`;
 const TYPES = ["|b1", "|i1", "<i2", "<i4", "<i8", "|u1", "<u2", "<u4", "<u8", "|S8", "T{<i:x:<h:y:}"];
-const SIGNS = { add: "+", sub: "-", mul: "*", fdiv: "//", mod: "%", and: "&", or: "|", xor: "^", shl: "<<", shr: ">>", eq: "==", ne: "!=", lt: "<", le: "<=", gt: ">", ge: ">=", neg: "-", not: "~", div: "/" };
 const TOKENS = /(#.*)|(b'(?:[^'\\]|\\.)*'?|"[^"]*"?)|([A-Za-z_]\w*)|([+-]?\d+)/g;
-// A form of a line, and its form in NumPy: upper case stands for what is between blanks.
-const NUMPY = [
-  [/^(\w+) = zeros (\S+) (\(.*\))$/, (x, d, s) => `${x} = np.zeros(${tuple(s)}, ${dtype(d)})`],
-  [/^(\w+) = full (\S+) (\([\d, ]*\)) (.*)$/, (x, d, s, value) => `${x} = np.full(${tuple(s)}, ${value}, ${dtype(d)})`],
-  [/^(\w+) = arange (\S+) (\S+) (\S+) (\S+)$/, (x, d, ...steps) => `${x} = np.arange(${steps.join(", ")}, dtype=${dtype(d)})`],
-  [/^(\w+) = array (\S+) (\([\d, ]*\)) (.*)$/, (x, d, s, items) => `${x} = np.array([${items.match(new RegExp(LITERAL, "g")).join(", ")}], ${dtype(d)}).reshape(${spaced(s.slice(1, -1)).replace(/, *$/, "")})`],
-  [/^(\w+) = field (\w+) (".*")$/, (x, y, name) => `${x} = ${y}[${name}]`],
-  [/^(\w+) = transpose (\w+)$/, (x, y) => `${x} = ${y}.T`],
-  [/^(\w+) = transpose (\w+) \((.*)\)$/, (x, y, axes) => `${x} = ${y}.transpose(${spaced(axes)})`],
-  [/^(\w+) = reshape (\w+) \((.*?),?\)$/, (x, y, lengths) => `${x} = ${y}.reshape(${spaced(lengths) || "()"})`],
-  [/^(\w+) = broadcast (\w+) (\(.*\))$/, (x, y, s) => `${x} = np.broadcast_to(${y}, ${tuple(s)})`],
-  [/^(\w+) = copy (\w+) ([CF])$/, (x, y, order) => `${x} = ${y}.copy(order="${order}")`],
-  [/^(\w+) = cast (\w+) (\S+)$/, (x, y, d) => `${x} = ${y}.astype(${dtype(d)})`],
-  [/^(\w+) = load (".*")$/, (x, file) => `${x} = np.load(${file})`],
-  [/^(\w+) = (neg|not) (\S+)$/, (x, sign, y) => `${x} = ${SIGNS[sign]}${y}`],
-  [/^(\w+) = (sum|prod|min|max|any|all|argmin|argmax) (\w+)(?: ([+-]?\d+))?( keep)?$/, (x, red, y, axis, keep) => `${x} = ${y}.${red}(${[axis && `axis=${axis}`, keep && "keepdims=True"].filter(Boolean).join(", ")})`],
-  [/^(\w+) = (\w+) (\w+(?:\[.*?\])?) (.+)$/, (x, sign, y, z) => SIGNS[sign] && `${x} = ${spacedIndex(y)} ${SIGNS[sign]} ${spacedIndex(z)}`],
-  [/^(\w+) = (\w+(?:\[.*\])?)$/, (x, y) => `${x} = ${spacedIndex(y)}${y.includes("[") ? "" : "[...]"}`],
-  [/^set (\w+\[.*?\]) = (.*)$/, (x, y) => `${spacedIndex(x)} = ${spacedIndex(y)}`],
-  [/^upd (\w+)\[:\] (\w+) (.*)$/, (x, sign, z) => SIGNS[sign] && `${x} ${SIGNS[sign]}= ${spacedIndex(z)}`],
-  [/^upd (\w+\[.*?\]) (\w+) (.*)$/, (x, sign, z) => SIGNS[sign] && `${spacedIndex(x)} ${SIGNS[sign]}= ${spacedIndex(z)}`],
-  [/^save (\w+) (".*")$/, (x, file) => `np.save(${file}, ${x})`],
-  [/^del (\w+)$/, x => `del ${x}`],
-  [/^print (\w+)$/, x => `print(${x})`],
-  [/^shares (\w+) (\w+)$/, (x, y) => `np.shares_memory(${x}, ${y})`],
-];
-const spaced = list => list.replace(/\s*,\s*/g, ", ");
-const spacedIndex = operand => operand.replace(/\[[^\]]*\]/g, spaced);
-const tuple = shape => shape.replace(/\s+/g, "").replace(/^\((\d+),?\)$/, "($1,)").replace(/,(?=.)(?!\))/g, ", ");
-const dtype = type => `"${type.replace(/^\|/, "")}"`;
-
-/** NumPy's line for a line of the bench; undefined where there is none. */
-export function inNumPy(line) {
-  if (/\bT\{/.test(line)) return undefined;
-  for (const [form, made] of NUMPY) {
-    const found = form.exec(line.trim().replace(/[ \t]+/g, " "));
-    if (found) return made(...found.slice(1)) || undefined;
-  }
-  return undefined;
-}
 
 /** A line read as each form of a command: `far` is the place up to which it reads as some form, and `wanted` what may stand there, each with
  *  the pieces of the forms from there on. Where `names` are given, only these are arrays. The rules are those of grammar.py. */

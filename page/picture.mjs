@@ -81,10 +81,10 @@ class Drawn {
     return this.gapped({ label, look, boxes });
   }
 
-  /** The cells that a name sees, numbered in the order in which it reads them. */
+  /** The cells that a name sees, each with the index by which the name reaches it. */
   nameRow({ name, bound, state }) {
     const { array, kind } = bound, times = product(array.shape) / Math.max(1, bound.count);
-    const boxes = bound.numbers(this.starts, this.size).map(([byte, number]) => this.box(times > 1 ? `${number}×${times}` : String(number), byte, kind.size, state ? "" : this.lookOf(bound, byte)));
+    const boxes = bound.numbers(this.starts, this.size).map(([byte, number]) => ({ ...this.box(indexText(array, bound.index(byte)) || "[...]", byte, kind.size, state ? "" : this.lookOf(bound, byte)), number, times }));
     const asked = !state && this.moment.words.has(name) ? "asked" : state.split(" ")[0];
     const note = `${name}${state && ` ${state}`}: ${cut(array.type, SHORT)} ${shapeText(array.shape)}, strides ${shapeText(array.strides)}, at ${array.at}`
       + (array.writable ? "" : ", read-only") + (times > 1 ? `, ${times} indexes to each item` : "");
@@ -131,13 +131,13 @@ class Drawn {
   }
 }
 
-/** The number of a colour for each name in a buffer, by both: one that no other name has there. */
+/** The number of a colour for each name in a buffer, by both: one that no other name has at that time. */
 export function huesOf(moments, hues = new Map()) {
   for (const { before, after } of moments) {
     for (const { names } of before === after ? [] : [before, after]) {
       for (const [name, { buffer }] of names) {
         if (hues.has(`${name} ${buffer}`)) continue;
-        const taken = new Set([...names].filter(([, other]) => other.buffer === buffer).map(([other]) => hues.get(`${other} ${buffer}`)));
+        const taken = new Set([...names].map(([other, bound]) => hues.get(`${other} ${bound.buffer}`)));
         hues.set(`${name} ${buffer}`, range(0, taken.size + 1).find(hue => !taken.has(hue)));
       }
     }
@@ -172,6 +172,7 @@ export function bytesIn({ type, size }, value) {
 
 /** What a line did, in words. */
 export function said(moment) {
+  if (moment.isBlind) return "There is no room left to draw the memory of this line.";
   const { before, after, moved, written, undone, line, reply } = moment, told = undone ? [`Line ${undone} is taken back.`] : [], [, saved] = /^ok save (\d+)$/.exec(reply.text) ?? [];
   const fresh = reply.text.endsWith(" copy") ? "a copy" : "a new array", why = fresh === "a copy" && /=\s*reshape\b/.test(line) ? ": no strides lead to the items in this shape" : "";
   for (const [name, bound] of after.names) {

@@ -11,6 +11,7 @@ const SLICES = 4; // of an array of three axes
 const AT_ONCE = 1 << 16; // bytes of items that are printed in one go
 const MOST_PLACES = 4096; // of the values that a line writes, those that are looked at
 const ENDS = 8; // of the items of a name that came, or that were written, those around which a long buffer is drawn
+const NO_ROOM_LEFT = "out of memory"; // as bench.mjs says it
 const WORD = /[A-Za-z_]\w*/g;
 const ODD = /[^\t -~]/g;
 const BOUND = /^ok (\w+) .* (new|view|copy)(?: rest \d+)?$/;
@@ -23,7 +24,7 @@ const SOURCE = /^\s*set\s[^=]*=\s*([A-Za-z_]\w*(?:\[[^\]]*\])?)\s*$/; // those t
 
 export const product = numbers => numbers.reduce((left, right) => left * right, 1);
 export const range = (from, to) => Array.from({ length: Math.max(0, to - from) }, (_, k) => from + k);
-const wordsOf = text => text.match(WORD) ?? [];
+export const wordsOf = text => text.match(WORD) ?? [];
 const numbersIn = text => (text.match(/-?\d+/g) ?? []).map(Number);
 const remainder = (value, by) => ((value % by) + by) % by;
 
@@ -187,10 +188,10 @@ class State {
 }
 
 /** A line of the script with its reply; the states before and after it; for each buffer the bytes around which it is drawn; the bytes
- *  of the values that the line wrote; where those came from that it moved; and the number of the line that it took back. */
+ *  of the values that the line wrote; where those came from that it moved; the number of the line that it took back; and whether there was no room to find these out. */
 export class Moment {
-  constructor(number, line, reply, before, after, { focus, written = new Map(), moved = new Map(), undone }) {
-    Object.assign(this, { number, line, reply, before, after, focus, written, moved, undone });
+  constructor(number, line, reply, before, after, { focus, written = new Map(), moved = new Map(), undone, isBlind = false }) {
+    Object.assign(this, { number, line, reply, before, after, focus, written, moved, undone, isBlind });
     this.words = new Set(wordsOf(line.slice(0, 10_000)).filter(word => before.names.has(word) || after.names.has(word)));
   }
 
@@ -212,6 +213,7 @@ export class Trace {
     this.kept = []; // of each change the state before it, the bytes around which it was drawn, and its line
     this.focus = new Map(); // of each buffer the bytes around which it was drawn last
     this.lines = this.made = 0;
+    this.isBlind = false; // whether the second bench lost track of the first, for want of memory
     this.state = new State();
   }
 
@@ -226,8 +228,8 @@ export class Trace {
     const reply = this.bench.answer(line), text = line.replace(/\r$/, "").replace(ODD, "\ufffd"), before = this.state;
     const verb = /^ok (\w+)/.exec(reply.text)?.[1];
     if (verb === "save") this.share(line);
-    if (!verb || verb === "save") return new Moment(this.lines, text, reply, before, before, { focus: this.focus });
-    const did = verb === "set" || verb === "upd" ? this.write(line, reply) : this.change(line, reply, verb);
+    const did = !verb || verb === "save" || this.isBlind ? undefined : this.followed(line, reply, verb);
+    if (!did) return new Moment(this.lines, text, reply, before, before, { focus: this.focus, isBlind: this.isBlind });
     if (verb !== "undo") this.kept.push([before, did.focus, this.lines]);
     if (this.kept.length > MOST_UNDO) this.kept.shift();
     this.focus = new Map([...this.focus, ...did.focus]);
@@ -237,12 +239,24 @@ export class Trace {
   /** The second bench gets the file that a line saved. */
   share(line) {
     const [, name] = /"([^"]*)"/.exec(line);
-    this.second.files.set(name, this.bench.files.get(name));
+    try { this.second.files.set(name, this.bench.files.get(name)); } catch (fault) { this.goBlind(fault); }
+  }
+
+  /** What a line changed; undefined where the second bench has no room to find out. */
+  followed(line, reply, verb) {
+    try { return verb === "set" || verb === "upd" ? this.write(line, reply) : this.change(line, reply, verb); } catch (fault) { return this.goBlind(fault); }
+  }
+
+  /** From here on there are replies, but no pictures. */
+  goBlind(fault) {
+    if (fault.message !== NO_ROOM_LEFT) throw fault;
+    this.isBlind = true;
   }
 
   /** Sends a line to the second bench too. */
   again(line, reply) {
     const other = this.second.answer(line);
+    if (other.code === "E40") throw new Error(NO_ROOM_LEFT);
     if (other.text !== reply.text) throw new Error(`the program answered ${reply.text.slice(0, 200)}, and then ${other.text.slice(0, 200)}`);
   }
 
@@ -376,7 +390,7 @@ export class Trace {
       lines.push(`${name} = reshape ${name} (-1)`, `${spare} = array <i8 (${numbers.length}) ${numbers.join(" ")}`, `${name} = ${name}[${spare}]`);
     }
     const items = this.tried(lines, () => itemsOf(ask(this.second, `print ${name}`)));
-    if (!items) throw new Error("out of memory");
+    if (!items) throw new Error(NO_ROOM_LEFT);
     return isLong ? items : numbers.map(number => items[number]);
   }
 }

@@ -125,13 +125,12 @@ def texts(row):
 
 
 def items_of_name(row, values):
-    """The items that the row of a name shows, by their numbers: the texts of the values that stand over each."""
+    """The items that the row of a name shows, by their numbers in C order: the texts of the values that stand over each."""
     found = {}
     for box in row["boxes"]:
         if box["look"] != "gap":
-            number, _, times = box["text"].partition("×")
             inside = [other["text"] for other in values["boxes"] if other["look"] not in ("pad", "gap") and box["byte"] <= other["byte"] < box["byte"] + box["size"]]
-            found[int(number)] = (inside, int(times or 1))
+            found[box["number"]] = (inside, box["times"])
     return found
 
 
@@ -141,7 +140,7 @@ class Pictures(unittest.TestCase):
     def test_buffers_and_values(self):
         """Buffers are as `shares` says, and what is drawn is what `print` says: in random scripts, and in some of vectors/."""
         made = [scripts.random_script(PROGRAM, random.Random(-seed - 1), -seed - 1, depths=(0, 1, 3, 16, 56)) for seed in range(share(6, 400))]
-        written = [(lines, min(undo, 56)) for path in sorted((TOP / "vectors").glob("*.txt")) for lines, files, undo, _, _ in vectors(path) if not files]
+        written = [(lines, 0) for question, lines in vectors(1) if not question.files]
         chosen = [(script.lines, script.depth or 0) for script in made] + random.Random(7).sample(written, share(30, len(written)))
         for (lines, undo), told in zip(chosen, looks(chosen)):
             with tempfile.TemporaryDirectory() as folder, Session(PROGRAM, undo, folder) as judge:
@@ -249,7 +248,7 @@ class Pictures(unittest.TestCase):
         self.assertEqual([texts(row) for table in changed["tables"][1:3] for row in table["rows"] if any("→" in box["text"] for box in row["boxes"])] != [], True)
         self.assertIn("items in between are not drawn", changed["tables"][0]["caption"])
         names = {row["label"]: texts(row) for row in rows_of(view["tables"][:1], "name")}
-        self.assertEqual(names["v"], ["0", "1", "2"])
+        self.assertEqual(names["v"], ["[0]", "[1]", "[2]"])
         self.assertEqual([box["text"] for box in rows_of(scattered["tables"][:1], "now")[0]["boxes"] if box["look"] == "x"], ["-1", "-1"])
         self.assertLess(processor_seconds() - begun, 40)
 

@@ -15,7 +15,8 @@ import time
 from pathlib import Path
 from typing import Any, Optional
 
-PATIENT = 120  # seconds for a reply
+from .companion_trials import PATIENT
+
 CHROMIUM: Optional[str] = next(filter(None, map(shutil.which, ("chromium", "chromium-browser", "google-chrome"))), None)
 FIREFOX: Optional[str] = next(filter(None, map(shutil.which, ("firefox-esr", "firefox"))), None)
 MASKED = bytes(255 - byte for byte in range(256))
@@ -25,6 +26,8 @@ SETTINGS = {"browser.download.folderList": 2, "browser.shell.checkDefaultBrowser
 KEYS = {"Enter": (13, "\ue007"), "Tab": (9, "\ue004"), "Escape": (27, "\ue00c"), "Backspace": (8, "\ue003"), "ArrowLeft": (37, "\ue012"),
         "ArrowUp": (38, "\ue013"), "ArrowRight": (39, "\ue014"), "ArrowDown": (40, "\ue015")}
 FEW = 200  # letters that are typed one by one
+COPIES = """addEventListener('copy', event => { event.clipboardData.setData('text/plain', %s); event.preventDefault(); }, { once: true }),
+document.execCommand('copy')"""
 
 
 class Socket:
@@ -94,11 +97,11 @@ class Browser(contextlib.ExitStack):
         self.callback(shutil.rmtree, self._folder, ignore_errors=True)
         said, env = Path(self._folder, "said"), {**os.environ, "HOME": self._folder}
         with open(said, "wb") as err:
-            process = subprocess.Popen(self.words(), stdout=subprocess.DEVNULL, stderr=err, env=env)
-        self.callback(process.wait)
-        self.callback(process.kill)
+            self._process = subprocess.Popen(self.words(), stdout=subprocess.DEVNULL, stderr=err, env=env)
+        self.callback(self._process.wait)
+        self.callback(self._process.kill)
         try:
-            self._socket = Socket(*self._address(process, said))
+            self._socket = Socket(*self._address(self._process, said))
             self.callback(self._socket.close)
             for method, given in self.FIRST.items():
                 self.call(method, **given)
@@ -129,9 +132,30 @@ class Browser(contextlib.ExitStack):
                     raise RuntimeError(f"{method}: {reply['error']}: {reply.get('message')}")
                 return reply["result"]
 
+    def processor_seconds(self) -> float:
+        """The processor time of the browser and of the processes that it started."""
+        return sum(map(seconds_of, tree_of(self._process.pid))) / os.sysconf("SC_CLK_TCK")
+
     def words(self) -> list[str]:
         """The command that starts it."""
         raise NotImplementedError
+
+
+def tree_of(process: int) -> list[int]:
+    """The numbers of a process and of those below it."""
+    found = [process]
+    for number in found:
+        for task in Path(f"/proc/{number}/task").glob("*/children"):
+            with contextlib.suppress(OSError):
+                found += map(int, task.read_text().split())
+    return found
+
+
+def seconds_of(process: int) -> int:
+    """The processor time of a process, in ticks of the system's clock; none where it has ended."""
+    with contextlib.suppress(OSError):
+        return sum(map(int, Path(f"/proc/{process}/stat").read_text().rpartition(")")[2].split()[11:13]))
+    return 0
 
 
 class Page:
@@ -193,8 +217,14 @@ class ChromiumPage(Page):
         self.call("Input.dispatchKeyEvent", type="keyUp", **given)
 
     def type(self, text: str) -> None:
-        """Types a text, as from the clipboard."""
-        self.call("Input.insertText", text=text)
+        """Types a text, a long one by Ctrl-V."""
+        if len(text) < FEW:
+            self.call("Input.insertText", text=text)
+            return
+        self.ask(COPIES % json.dumps(text))
+        given = {"key": "v", "code": "KeyV", "windowsVirtualKeyCode": 86, "modifiers": 2}
+        self.call("Input.dispatchKeyEvent", type="rawKeyDown", **given, commands=["paste"])
+        self.call("Input.dispatchKeyEvent", type="keyUp", **given)
 
     def point(self, x: float, y: float) -> None:
         self.call("Input.dispatchMouseEvent", type="mouseMoved", x=x, y=y)
