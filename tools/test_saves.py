@@ -1,5 +1,6 @@
 """What a save does to the disk, and what it says where that fails. No contract reaches the system's calls, so these tests look at them: at what is
 read back, and at the calls themselves, below `trials/fail_calls.c`, which also fails them."""
+import argparse
 import fcntl
 import os
 import resource
@@ -7,9 +8,10 @@ import shutil
 import stat
 import subprocess
 import unittest
+from pathlib import Path
 
 from trials.companion_trials import PATIENT, PROGRAM, InFolder, needs_compiler, needs_program, nobody, share, works
-from trials import errors
+from trials import crashes, errors
 from trials.errors import FOLDER, HIDDEN, NAME, NEW, SAVE, Call
 
 FAULT = "no E27 store fault"
@@ -89,6 +91,36 @@ class Calls(Folder):
         errors.each_call(part, self.runs, self.folder / "tried", share(errors.FEW[:6], errors.FEW))
         self.assertEqual(part.faults, [])
         self.assertGreater(part.counts["trials"], 500)
+
+
+@needs_program
+class Crashes(Folder):
+    """What a crash of the machine may leave, by the calls of a save: each state, and the next save and load over it."""
+
+    def setUp(self):
+        super().setUp()
+        if not works("strace", "-qq", "-o", "/dev/null", "true"):
+            self.skipTest("there is no strace, or it may trace nothing here")
+
+    def test_each_state(self):
+        given = argparse.Namespace(program=Path(PROGRAM))
+        part = crashes.all_trials(given, self.folder)
+        self.assertEqual(part.faults, [])
+        self.assertEqual((part.counts["states"], part.counts["recoveries"]), (428, 163))
+
+    def test_what_would_be_wrong(self):
+        """A save that does not sync its bytes, one that does not sync the folder, and one that syncs its bytes only after it gave them the name."""
+        script, before = crashes.SCENARIOS["over a file"]
+        steps = crashes.recorded(Path(PROGRAM), self.dir, script, before)
+        bytes_, folder = ([step for step in steps if not isinstance(step, crashes.Sync) or (step.file is None) != is_folder] for is_folder in (False, True))
+        self.assertEqual((len(bytes_), len(folder)), (len(steps) - 1, len(steps) - 1))
+        named = next(at for at, step in enumerate(bytes_) if isinstance(step, crashes.Change) and step.gone)
+        late = [*bytes_[:named + 1], *(step for step in steps if step not in bytes_), *bytes_[named + 1:]]
+        for count, wrong in enumerate((bytes_, folder, late)):
+            with self.subTest(count):
+                self.assertTrue([told for _, _, told in crashes.crashed(before, wrong) if told])
+        self.assertFalse([told for _, _, told in crashes.crashed(before, steps) if told])
+
 
 
 @needs_program

@@ -19,7 +19,7 @@ from .companion_trials import PROGRAM
 from .runs import Part, shown, temporary_folder
 
 HOSTILE = {"memory": "memory", "limits": "limits", "files": "files", "numbers": "numbers", "devices": "devices", "errors": "errors",
-           "kills": "kills", "long": "long_runs"}
+           "crashes": "crashes", "kills": "kills", "long": "long_runs"}
 MOST_TOLD = 20
 
 
@@ -49,18 +49,24 @@ def arguments(words: Optional[Sequence[str]]) -> argparse.Namespace:
     worst = trial("worst", "the time and the memory of the worst line of each command")
     worst.add_argument("--seconds", type=float, default=120, metavar="N", help="the most that a run may take (120)")
     worst.add_argument("--first", type=int, default=0, metavar="K", help="begin behind so many rows")
+    search = trial("search", "lines of more than 10 s or 1.5 GB, over axes, orders, types and stores")
+    search.add_argument("--seconds", type=float, default=600, metavar="N", help="begin no more after so many seconds (600)")
+    search.add_argument("--most", type=float, default=120, metavar="N", help="the most that a run may take (120)")
+    search.add_argument("--only", default="", metavar="WORD", help="the commands with this in their names")
     for timed, runs in ((speed, 5), (worst, 3)):
         timed.add_argument("--only", default="", metavar="WORD", help="the rows with this in their names")
         timed.add_argument("--runs", type=int, default=runs, metavar="K", help=f"runs of which the least time counts ({runs})")
-    vectors = trial("vectors", "writes vectors/: scripts with their replies, for other libraries")
-    vectors.add_argument("--each", type=int, default=200, metavar="N", help="how many scripts of each family (200)")
-    vectors.add_argument("--to", type=Path, default=TOP / "vectors", help="the folder (vectors/)")
+    companion = trial("companion", "the companion with odd lines, headers, environments and keys")
+    companion.add_argument("--seconds", type=float, default=60, metavar="N", help="for so many seconds (60; for a night 3600)")
+    faults = trial("faults", "whether the judge finds the faults of a planted library at random, and none in the right one")
+    faults.add_argument("--seconds", type=float, default=60, metavar="N", help="for each fault (60); ten times that for the right library")
     trial("planted", "whether each trial finds its kind of fault, planted in the program's replies and files")
+    trial("judge", "what bench finds in the array programs that are installed: docs/FINDINGS.md")
     trial("sessions", "how long the calls of a session take, behind a pipe and in the process")
     given = parser.parse_args(words)
     given.program = given.program.resolve()
     parts = [HOSTILE[part] for part in getattr(given, "parts", []) or HOSTILE]
-    given.modules = parts if given.trial == "hostile" else ["beside_numpy" if given.trial == "numpy" else given.trial]
+    given.modules = parts if given.trial == "hostile" else [{"numpy": "beside_numpy", "companion": "companion_faults"}.get(given.trial, given.trial)]
     return given
 
 

@@ -14,6 +14,7 @@ from typing import Mapping, NamedTuple, Optional
 TUNABLES = {"hugetlb": 1, "mmap_threshold": 2**29, "trim_threshold": 2**29}
 ENVIRONMENT = {"GLIBC_TUNABLES": ":".join(f"glibc.malloc.{name}={value}" for name, value in TUNABLES.items()), **os.environ}
 FOLDER = tempfile.TemporaryDirectory()
+MOST_SECONDS, MOST_MEMORY = 10, 1.5 * 10**9
 
 
 class Used(NamedTuple):
@@ -72,3 +73,9 @@ def run(program: Path, text: str, depth: int, limit: Optional[float] = None, is_
         out.seek(0)
         replies = out.read().decode("latin-1").split("\n")
     return Used(used.ru_utime + used.ru_stime, used.ru_maxrss * 1024, process.returncode >= 0, replies)
+
+
+def record(leaves: int, letters: str = "b") -> str:
+    """The format text of a record with so many leaves, of these letters in turn, in up to 64 fields."""
+    inner = "".join(f"{letters[k % len(letters)]}:{chr(97 + k % 26)}{k}:" for k in range(min(leaves, 64)))
+    return f"T{{{inner}}}" if leaves <= 64 else "T{" + "".join(f"T{{{inner}}}:r{k}:" for k in range(leaves // 64)) + "}"

@@ -1,5 +1,6 @@
 """The worst line that is known for each command, with sizes at the language's limits, as worst.txt has it: its processor time, and the
-memory that it takes beside its arrays and its result.
+memory that it takes beside its arrays and its result. Each row is also measured with its broadcast arrays stored, and with the axes of its
+arrays reversed, where that is another line that is accepted.
 
 The time of a line is the difference between a run with it and one without it, the least of several runs. Its memory is the most that the
 run with it held, without what an idle run holds and the bytes of the arrays that the run made. docs/DECISIONS.md has the table; a line that
@@ -7,6 +8,7 @@ takes more than 10 seconds or 1.5 GB is named there with its floor.
 """
 from __future__ import annotations
 
+import itertools
 import math
 import re
 from argparse import Namespace
@@ -14,21 +16,44 @@ from pathlib import Path
 
 from . import TOP, dtypes
 from .runs import Part
-from .timed import Row, rows, run
+from .timed import MOST_MEMORY, MOST_SECONDS, Row, record, rows, run
 
-MOST_SECONDS, MOST_MEMORY = 10, 1.5 * 10**9
 MADE = re.compile(r"ok \w+ (.+) \(([\d, ]*)\) (?:new|copy)")
-
-
-def record(leaves: int, letters: str = "b") -> str:
-    """The format text of a record with so many leaves, of these letters in turn, in up to 64 fields."""
-    inner = "".join(f"{letters[k % len(letters)]}:{chr(97 + k % 26)}{k}:" for k in range(min(leaves, 64)))
-    return f"T{{{inner}}}" if leaves <= 64 else "T{" + "".join(f"T{{{inner}}}:r{k}:" for k in range(leaves // 64)) + "}"
+BROADCAST = re.compile(r"(?m)^(\w+) = broadcast .*")
+AXES, MOST_ITEMS = ",".join("2" * 24), str(2**24)
 
 
 WORDS = {"record": record(64), "leaves": record(2048), "leaves_h": record(2048, "h"), "leaves_b": record(2048, "b?B"),
          "leaves_mixed": record(2048, "qhI").replace("q:", ">q:")}
 ROWS = [row.with_words(WORDS) for row in rows(TOP / "tools/trials/worst.txt")]
+
+
+def stored(row: Row) -> Row:
+    """The row with each broadcast array copied."""
+    return row._replace(name=f"{row.name}, stored", setup=BROADCAST.sub(r"\g<0>\n\1 = copy \1 C", row.setup))
+
+
+def reversed_axes(row: Row) -> Row:
+    """The row with the axes of its arrays reversed, or with those of its index arrays; a single axis of 2^24 becomes 24 axes first."""
+    listed = "".join(re.findall(r"\[(.*?)\]", row.line))
+    names = dict.fromkeys(name for name in re.findall(r"\w+", listed or row.line) if re.search(rf"(?m)^{name} = ", row.setup))
+    lines = [row.setup]
+    for name in names:
+        lines += [f"{name} = reshape {name} ({AXES})"] * (MOST_ITEMS in re.findall(rf"(?m)^{name} = .*", row.setup)[-1])
+        lines.append(f"{name} = transpose {name}")
+    return row._replace(name=f"{row.name}, reversed", setup="\n".join(lines))
+
+
+def variants(program: Path, row: Row) -> list[Row]:
+    """The row, and what other lines it becomes if its arrays are stored in other ways."""
+    others = [other for other in (stored(row), reversed_axes(row), reversed_axes(stored(row))) if other.setup != row.setup]
+    distinct = {other.setup: other for other in others}.values()
+    return [row, *(other for other in distinct if is_accepted(program, other.setup))]
+
+
+def is_accepted(program: Path, lines: str) -> bool:
+    """Whether all these lines are accepted."""
+    return not any(reply.startswith("no ") for reply in run(program, f"{lines}\n", 1, is_kept=True).replies)
 
 
 def held(told: list[str]) -> tuple[int, str]:
@@ -58,13 +83,12 @@ def all_trials(given: Namespace, _folder: Path) -> Part:
     """Each row, as a table."""
     part = Part()
     print("| Command | Its worst line | Seconds | MB beside arrays and result | |\n|---|---|---|---|---|")
-    for row in ROWS[given.first:]:
-        if given.only in row.name:
-            seconds, memory, told = measured(given.program, row, given.runs, given.seconds)
-            command, _, name = row.name.partition(": ")
-            is_over = seconds > MOST_SECONDS or memory > MOST_MEMORY
-            print(f"| {command} | {name} | {seconds:.3f} | {memory / 1e6:.0f} | {'**over** ' * is_over}{told} |", flush=True)
-            part.count("lines")
-            part.count("over 10 s or 1.5 GB", is_over)
-            part.figures.append({"command": command, "line": name, "seconds": seconds, "bytes": memory, "told": told})
+    for row in itertools.chain.from_iterable(variants(given.program, row) for row in ROWS[given.first:] if given.only in row.name):
+        seconds, memory, told = measured(given.program, row, given.runs, given.seconds)
+        command, _, name = row.name.partition(": ")
+        is_over = seconds > MOST_SECONDS or memory > MOST_MEMORY
+        print(f"| {command} | {name} | {seconds:.3f} | {memory / 1e6:.0f} | {'**over** ' * is_over}{told} |", flush=True)
+        part.count("lines")
+        part.count("over 10 s or 1.5 GB", is_over)
+        part.figures.append({"command": command, "line": name, "seconds": seconds, "bytes": memory, "told": told})
     return part
