@@ -1,8 +1,8 @@
 #!/usr/bin/env python3
 """Runs the tests of everything but the proofs: tools/test.py [WORD ..] runs those whose names have one of the words, or all.
 
-It takes two minutes on two cores, and needs no toolchain. Skipped tests are listed with the reason. The last line is
-`N passed, M failed, K skipped`. With --gate, `rt ci` runs first and proves everything from scratch, then dist/ is compared with the
+It takes two minutes on four cores, and needs no toolchain. On a terminal a line says how far it is. Skipped tests are listed with the
+reason. The last line is `N passed, M failed, K skipped`. With --gate, `rt ci` runs first and proves everything from scratch, then dist/ is compared with the
 program that it built, and no test may be skipped because there is no program."""
 import concurrent.futures
 import io
@@ -12,7 +12,6 @@ import re
 import shutil
 import subprocess
 import sys
-import time
 import unittest
 
 TOOLS = pathlib.Path(__file__).resolve().parent
@@ -37,30 +36,54 @@ def names_of(suite):
             yield test.id().replace("unittest.loader._FailedTest.", "")
 
 
+# The tests that take longest begin first, so that none of them is left alone at the end.
+LONG = ("InChromium.test_drawn", "InFirefox.test_drawn", "widths_and_colours", "test_wheel", "test_time", "test_page", "test_library", "test_draw")
+
+
+def by_length(name):
+    """The place of a test in the order in which they begin."""
+    return next((k for k, word in enumerate(LONG) if word in name), len(LONG))
+
+
+def show(text):
+    """On a terminal, writes a line over the last one."""
+    if sys.stderr.isatty():
+        print(f"\r\033[K{text[:os.get_terminal_size(2).columns - 1]}", end="", file=sys.stderr, flush=True)
+
+
+def results(names):
+    """What `run_test` returns of each, on all cores, as they end."""
+    with concurrent.futures.ProcessPoolExecutor() as pool:
+        started = {pool.submit(run_test, name): name for name in sorted(names, key=by_length)}
+        for done, each in enumerate(concurrent.futures.as_completed(started)):
+            show(f"bench: {done} of {len(names)} tests done; {started[each]}")
+            yield each.result()
+    show("")
+
+
 def run_test(name):
-    """Runs a test. Returns its name, what it says about failures, why it was skipped, and how many seconds it took."""
-    began, said = time.monotonic(), io.StringIO()
+    """Runs a test. Returns its name, what it says about failures, and why it was skipped."""
+    said = io.StringIO()
     result = unittest.TextTestRunner(said, verbosity=0).run(unittest.defaultTestLoader.loadTestsFromName(name))
-    return name, "" if result.wasSuccessful() else said.getvalue(), [why for _, why in result.skipped], time.monotonic() - began
+    return name, "" if result.wasSuccessful() else said.getvalue(), [why for _, why in result.skipped]
 
 
 def run_tests(words, counts, is_gate):
     """Runs the tests on all cores, and reports those that failed and those that were skipped."""
     found = names_of(unittest.defaultTestLoader.discover(str(TOOLS), "test_*.py"))
     names = [name for name in found if not words or any(word in name for word in words)]
-    with concurrent.futures.ProcessPoolExecutor() as pool:
-        for name, fault, reasons, _ in list(pool.map(run_test, names)):
-            if fault:  # On a busy machine a signal or a limit of time may come at the wrong moment.
-                print(f"{fault}\n{name} is run once more, alone", flush=True)
-                _, fault, reasons, _ = run_test(name)
-            if fault or is_gate and any("no program" in why for why in reasons):
-                print(f"FAILED: {name}\n{fault or reasons}", flush=True)
-                counts.failed += 1
-            elif reasons:
-                for why in set(reasons):
-                    counts.left_out[why] = counts.left_out.get(why, 0) + 1
-            else:
-                counts.passed += 1
+    for name, fault, reasons in list(results(names)):
+        if fault:  # On a busy machine a signal or a limit of time may come at the wrong moment.
+            print(f"{fault}\n{name} is run once more, alone", flush=True)
+            _, fault, reasons = run_test(name)
+        if fault or is_gate and any("no program" in why for why in reasons):
+            print(f"FAILED: {name}\n{fault or reasons}", flush=True)
+            counts.failed += 1
+        elif reasons:
+            for why in set(reasons):
+                counts.left_out[why] = counts.left_out.get(why, 0) + 1
+        else:
+            counts.passed += 1
     for why, count in sorted(counts.left_out.items()):
         print(f"skipped: {count}, {why}")
 

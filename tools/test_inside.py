@@ -91,6 +91,15 @@ class Piped(unittest.TestCase):
         for wrong in (numpy.zeros(2, "<f8"), numpy.zeros((1,) * 33, "<i4") if numpy.lib.NumpyVersion(numpy.__version__) >= "2.0.0" else numpy.zeros(2, "M8[s]")):
             with self.assertRaises(Refused):
                 bench.put("y", wrong)
+        for wrong, said in ((numpy.zeros(2, "<f8"), "no E05 descriptor left out: put('y', ..) of dtype float64: bench has no floats: the type is <f8"),
+                            (numpy.zeros(2, [("x", "<i2", (3,))]), "field x has the shape (3,), which bench does not have"), (numpy.array(["a"]), "bench has no Unicode strings")):
+            with self.assertRaises(Refused) as caught:
+                bench.put("y", wrong)
+            self.assertIn(said, str(caught.exception))
+        for call, said in ((lambda: bench.put("no name", [1]), "no E03 syntax: put('no name', ..) of dtype int64"), (lambda: bench.get("nowhere"), "no E06 unknown name: get('nowhere')")):
+            with self.assertRaises(Refused) as caught:
+                call()
+            self.assertEqual(str(caught.exception), said)
         with self.assertRaises(TypeError):
             bench.put("y", numpy.array([None]))
         with self.assertRaises(Refused):
@@ -114,6 +123,41 @@ class Piped(unittest.TestCase):
         self.assertEqual(bench.close(), bench.close())
         for call in (lambda: bench.send("names"), lambda: bench.batch(["names"]), lambda: bench.info("a")):
             self.assertRaises(ProgramEnded, call)
+
+    def test_files_of_a_closed_session(self):
+        bench = self.session()
+        bench.batch(["a = arange <i4 0 6 1", 'save a "a.npy"'])
+        self.assertEqual(len(bench.files["a.npy"]), 152)
+        bench.close()
+        for call in (lambda: bench.files["a.npy"], lambda: bench.files["none"], lambda: list(bench.files), lambda: len(bench.files),
+                     lambda: "a.npy" in bench.files, lambda: bench.files.__setitem__("b", b"x"), lambda: bench.files.get("a.npy")):
+            self.assertRaises(ProgramEnded, call)
+
+    @needs_numpy
+    def test_arrays_of_a_closed_session(self):
+        bench = self.session()
+        bench.close()
+        self.assertRaises(ProgramEnded, bench.put, "a", numpy.zeros(2, "<i4"))
+        self.assertRaises(ProgramEnded, bench.get, "a")
+
+    def test_arguments_of_other_types(self):
+        for undo, raised in (("3", TypeError), (2.0, TypeError), (None, TypeError), (-1, ValueError), (65, ValueError), (1 << 70, ValueError)):
+            self.assertRaises(raised, self.session, undo=undo)
+        bench = self.session()
+        for call in (lambda: bench.files.__setitem__("a", "text"), lambda: bench.send(5), lambda: bench.send(None), lambda: bench.batch([5])):
+            self.assertRaises(TypeError, call)
+        self.assertEqual(bench.ask("names"), "names")
+
+    @needs_numpy
+    def test_an_array_with_a_long_header(self):
+        """Of more than the 10,000 bytes that NumPy's own reader takes."""
+        bench = self.session()
+        inner = "".join(f"b:{'n' * 40}{k}:" for k in range(60))
+        bench.ask("a = zeros T{" + "".join(f"T{{{inner}}}:g{k}:" for k in range(4)) + "} (2)")
+        bench.ask('b = field a "g2"')
+        self.assertEqual(bench.get("a").dtype.itemsize, 240)
+        self.assertEqual(bench.get("a").dtype["g3"].names[59], "n" * 40 + "59")
+        self.assertEqual(bench.get("b").shape, (2,))
 
 
 @needs_library

@@ -10,8 +10,8 @@ import time
 import unittest
 
 from test_run import heard
-from test_shell import AT_PROMPT, Terminal
 from trials.companion_trials import PATIENT, PROGRAM, TOP, links_to, needs_program, processor_seconds
+from trials.terminals import AT_PROMPT, Terminal
 
 BUILT = "crates/bench_main/out/bench_main"
 SIZE = "536870912"
@@ -52,7 +52,7 @@ class InTree(unittest.TestCase):
         self.folder = pathlib.Path(tempfile.mkdtemp())
         self.addCleanup(shutil.rmtree, self.folder)
         self.tree = self.folder / "a tree"
-        for name in ("bench", "Makefile", "CHANGELOG.md", "README.md", "tools/make", "docs", "companion", "completions", "man", "editors", "examples"):
+        for name in ("bench", "Makefile", "CHANGELOG.md", "README.md", "tools/make", "docs", "companion", "completions", "man", "editors", "examples", "LICENSE-MIT", "LICENSE-APACHE"):
             self.copy(TOP / name, self.tree / name)
         self.put(self.tree / "crates.txt", CRATES)
         self.uses = dict(re.findall(r"(\w+):(.*)\n", CRATES))
@@ -112,8 +112,8 @@ class Launcher(InTree):
 
     def test_a_link_leads_to_it(self):
         (self.folder / "link").symlink_to(self.tree / "bench")
-        self.assertEqual(self.told(self.run_in([str(self.folder / "link"), "x"], where="/"))[0], "words: x")
-        self.assertEqual(self.told(self.run_in(["sh", "bench", "x"]))[0], "words: x")
+        self.assertEqual(self.told(self.run_in([str(self.folder / "link"), "-x"], where="/"))[0], "words: -x")
+        self.assertEqual(self.told(self.run_in(["sh", "bench", "-x"]))[0], "words: -x")
 
     @needs_program
     def test_folders_of_any_name(self):
@@ -137,7 +137,7 @@ class Launcher(InTree):
             with self.subTest(words, path=path):
                 self.assertEqual("Tab completes" in self.at_terminal(["./bench", *words], path, is_shell), is_shell)
         self.assertEqual(self.told(self.run_in(["./bench"])), [])
-        self.assertEqual(self.run_in(["./bench", "--plain", "nowhere"]).stderr, "bench: no script\n")
+        self.assertEqual(self.run_in(["./bench", "--plain", "nowhere"]).stderr, "bench: no script: nowhere\n")
 
     def at_terminal(self, words, path, is_shell):
         """What is shown at a terminal where `names` and Ctrl-D are typed, in the shell at its prompts: before one a key may be lost."""
@@ -174,28 +174,79 @@ class Launcher(InTree):
             ran = subprocess.run(["sh", "-c", f"ulimit -d 1500; exec '{TOP}/bench'"], input=b"names\n", capture_output=True)
             self.assertIn((ran.returncode, ran.stdout, ran.stderr), [(0, b"names\n", b""), (3, b"", b"bench: out of memory\n")])
 
+    @needs_program
+    def test_few_descriptors(self):
+        """Where few files may be open it runs, or says that it cannot."""
+        script = self.folder / "script.bench"
+        script.write_text("names\n")
+        for most in range(4, 17):
+            for given in (f"'{script}'", f"<'{script}'", f"'{script}' 9</dev/null"):
+                ran = subprocess.run(["sh", "-c", f"ulimit -n {most}; '{TOP}/bench' {given}"], capture_output=True, text=True, timeout=PATIENT)
+                with self.subTest(most=most, given=given):
+                    self.assertEqual(ran.stdout, "names\n" if ran.returncode == 0 else "")
+                    self.assertTrue(ran.returncode == 0 or ran.stderr)
+
     def test_no_proc(self):
-        ran = self.run_in(["unshare", "-m", "sh", "-c", "umount -l /proc && exec ./bench x"]) if shutil.which("unshare") else None
+        ran = self.run_in(["unshare", "-m", "sh", "-c", "umount -l /proc && exec ./bench -x"]) if shutil.which("unshare") else None
         if ran is None or re.search("unshare|umount", ran.stderr):
             self.skipTest("/proc cannot be taken away here")
-        self.assertEqual(ran.stdout.splitlines()[0], "words: x")
+        self.assertEqual(ran.stdout.splitlines()[0], "words: -x")
+
+    def test_version(self):
+        """It says which program it starts."""
+        self.assertEqual(self.told(self.run_in(["./bench", "--version"])), ["bench 1.0 from ./dist/bench-x86_64-linux"])
+        self.assertEqual(self.told(self.run_in(["./bench", "--version", "--undo"]))[0], "words: --version --undo")
+
+    def test_no_script(self):
+        """A script that is not there is named, if its name is plain; whatever else is the program's to say."""
+        ran = self.run_in(["./bench", "no where.bench"])
+        self.assertEqual((ran.returncode, ran.stdout, ran.stderr), (3, "", "bench: no script: no where.bench\n"))
+        for words in (["\x1b[2J"], ["\u00e9"], [""], ["-"], ["--help"], ["README.md"], ["x", "y"]):
+            self.assertEqual(self.told(self.run_in(["./bench", *words]))[0], "words: " + " ".join(words))
 
     def test_no_program(self):
         shutil.rmtree(self.tree / "dist")
         ran = self.run_in(["./bench"])
-        self.assertEqual((ran.returncode, ran.stdout, ran.stderr), (3, "", "bench: no program in .: `make` builds it\n"))
+        self.assertEqual((ran.returncode, ran.stdout, ran.stderr), (3, "", "bench: no program for x86_64 in ./crates/bench_main/out, ./dist or ./../libexec/bench: `make` builds one for x86_64\n"))
+
+    def instead(self, old, new):
+        """Has the launcher look at another path."""
+        launcher = self.tree / "bench"
+        self.assertIn(old, launcher.read_text())
+        launcher.write_text(launcher.read_text().replace(old, str(new)))
 
     def test_another_machine(self):
-        """Where the loader of glibc for x86-64 is not, the program is tried, and what it needs is told if it does not run."""
-        launcher = self.tree / "bench"
-        launcher.write_text(launcher.read_text().replace("/lib64/ld-linux-x86-64.so.2", "/nowhere"))
-        self.assertEqual(self.told(self.run_in(["./bench", "x"]))[0], "words: x")
-        self.put(self.tree / "dist/bench-x86_64-linux", "#!/bin/sh\nexit 127\n")
-        for uname in ("Linux x86_64", "Linux aarch64"):
-            self.put(self.folder / "kit/bin/uname", f"#!/bin/sh\necho '{uname}'\n")
+        """Where the loader of glibc for x86-64 is not, `uname` says the machine. Its program is tried, and what it needs is told if it does not
+        run; where there is none, that is told."""
+        self.instead("/lib64/ld-linux-x86-64.so.2", "/nowhere")
+        for machine in ("x86_64", "aarch64"):
+            self.put(self.folder / "kit/bin/uname", f"#!/bin/sh\n[ $1 = -m ] && echo {machine} || echo Linux\n")
+            self.put(self.tree / f"dist/bench-{machine}-linux", SAYS)
+            said = self.told(self.run_in(["./bench", "-x"]))
+            self.assertEqual((said[0], said[3].endswith(f"bench-{machine}-linux")), ("words: -x", True))
+            self.put(self.tree / f"dist/bench-{machine}-linux", "#!/bin/sh\nexit 127\n")
             ran = self.run_in(["./bench"])
             self.assertEqual((ran.returncode, ran.stdout), (3, ""))
-            self.assertIn("needs Linux on x86-64", ran.stderr)
+            self.assertIn("needs Linux, on x86-64", ran.stderr)
+        self.put(self.folder / "kit/bin/uname", "#!/bin/sh\necho arm64\n")
+        ran = self.run_in(["./bench"])
+        self.assertEqual((ran.returncode, ran.stdout, ran.stderr[:32]), (3, "", "bench: no program for arm64 in ."))
+
+    def test_another_processor(self):
+        """The program for x86-64-v3 is taken where the processor has all of it; what `make` built comes first."""
+        told = self.folder / "cpuinfo"
+        self.instead("/proc/cpuinfo", told)
+        self.put(self.tree / "dist/bench-x86_64-v3-linux", SAYS)
+        flags = "fpu fma cx16 movbe f16c lahf_lm abm fsgsbase bmi1 avx2 smep bmi2 erms"
+        for lacking in (None, "all", "fma", "movbe", "f16c", "abm", "bmi1", "avx2", "bmi2"):
+            has = "" if lacking == "all" else f"model\t: 1\nflags\t\t: {flags} \nbugs\t:\n".replace(f" {lacking} ", " ")
+            told.write_text(f"processor\t: 0\n{has}")
+            self.assertIn("v3" if lacking is None else "dist/bench-x86_64-linux", self.told(self.run_in(["./bench"]))[3], lacking)
+        told.unlink()
+        self.assertIn("dist/bench-x86_64-linux", self.told(self.run_in(["./bench"]))[3])
+        told.write_text(f"flags\t\t: {flags} \n")
+        self.put(self.tree / BUILT, SAYS)
+        self.assertIn("bench_main", self.told(self.run_in(["./bench"]))[3])
 
 
 @unittest.skipUnless(shutil.which("make"), "there is no make")
@@ -220,7 +271,7 @@ class Makes(InTree):
         self.assertEqual(sorted(done), sorted(self.uses))
         self.assertLessEqual(most, 3)
         self.assertEqual(list((self.tree / "out/build").glob("*/")), [])
-        self.assertEqual(self.told(self.run_in(["./bench", "x"]))[0], "words: x")
+        self.assertEqual(self.told(self.run_in(["./bench", "-x"]))[0], "words: -x")
 
     def test_sums_and_not_times_say_what_is_built(self):
         self.make()
@@ -276,12 +327,12 @@ class Makes(InTree):
         self.make("-s", "install", f"PREFIX={first}")
         self.tree.rename(self.folder / "away")
         first.rename(second)
-        said = self.told(self.run_in([str(second / "bin/bench"), "x"], where="/"))
-        self.assertEqual(said[0], "words: x")
+        said = self.told(self.run_in([str(second / "bin/bench"), "-x"], where="/"))
+        self.assertEqual(said[0], "words: -x")
         self.assertIn(f"mmap_threshold={SIZE}", said[1])
         docs = second / "share/doc/bench"
         for page in docs.rglob("*.md"):
-            for name in re.findall(r"\]\(([^)#:]+)\)", page.read_text()):
+            for name in re.findall(r"\]\(([^)#:, ]+)\)", page.read_text()):
                 self.assertTrue((page.parent / name).is_file() or page.name == "CHANGELOG.md", (page, name))
         self.assertEqual(self.run_in(["make", "-s", "uninstall", f"PREFIX={second}"], where=self.folder / "away").returncode, 0)
         self.assertEqual([path for path in second.rglob("*") if path.is_file()], [])
@@ -337,9 +388,13 @@ class Texts(unittest.TestCase):
         said = subprocess.run([PROGRAM, "--help"], capture_output=True, text=True).stdout
         self.assertEqual((TOP / "docs/help.txt").read_text(), said)
 
-    def test_the_page_has_the_version_of_the_changelog(self):
+    def test_one_version(self):
+        """The version is that of the changelog, wherever it stands."""
         version = re.search(r"^## (\d[\w.]*)", (TOP / "CHANGELOG.md").read_text(), re.M)[1]
-        self.assertIn(version, (TOP / "man/bench.1").read_text())
+        for file, text in (("man/bench.1", f'"bench {version}"'), ("man/bench-tool.1", f'"bench {version}"'), ("bench", f"bench {version} from"),
+                           ("companion/pyproject.toml", f'version = "{version}"'), ("companion/bench_tool/__init__.py", f'__version__ = "{version}"'),
+                           ("library/bench.pc", f"Version: {version}\n")):
+            self.assertIn(text, (TOP / file).read_text(), file)
 
     @needs_program
     def test_an_empty_script_costs_a_shell_at_most(self):

@@ -1,13 +1,11 @@
 """The library for C, from C, from Rust and from Python: invalid arguments, want of memory, two threads, and random scripts, which are answered
 as by the program. BENCH_TESTS=all tries 20,000 of these."""
 import ctypes
-import importlib.util
 import itertools
 import os
 import pathlib
 import shutil
 import subprocess
-import sys
 import tempfile
 import unittest
 import unittest.mock
@@ -109,27 +107,6 @@ class Installed(InFolder):
         ran = subprocess.run([made], input=(TOP / "examples/mirrored.bench").read_bytes(), stdout=subprocess.PIPE, check=True)
         self.assertEqual(ran.stdout, (TOP / "examples/mirrored.out").read_bytes())
 
-    @unittest.skipUnless(all(map(importlib.util.find_spec, ("ensurepip", "setuptools", "wheel", "numpy"))), "pip, setuptools, wheel or NumPy is not installed")
-    def test_pip_install(self):
-        """In a fresh virtual environment, without PYTHONPATH: an array goes in, is viewed mirrored and written to, and comes out."""
-        tree, python = self.folder / "tree", self.folder / "venv/bin/python"
-        shutil.copytree(TOP / "companion", tree / "companion", ignore=shutil.ignore_patterns("build", "*.egg-info", "__pycache__"))
-        for path in (TOP / "docs/LANGUAGE.md", SHARED):
-            (tree / path.relative_to(TOP)).parent.mkdir(parents=True, exist_ok=True)
-            shutil.copy(path, tree / path.relative_to(TOP))
-        subprocess.run([sys.executable, "-m", "venv", "--system-site-packages", self.folder / "venv"], check=True)
-        subprocess.run([python, "-m", "pip", "install", "-q", "--no-index", "--no-build-isolation", tree / "companion"], check=True, stderr=subprocess.DEVNULL)
-        code = """
-import bench_tool, numpy
-with bench_tool.Session() as bench:
-    bench.put("image", numpy.arange(6, dtype=">i2").reshape(2, 3))
-    bench.run(["mirrored = image[:,::-1]", "set mirrored[0,0] = 128"], check=True)
-    print(bench.get("image").tolist(), bench._inside is not None)
-"""
-        words = {name: value for name, value in os.environ.items() if not name.startswith(("BENCH", "PYTHON"))}
-        ran = subprocess.run([python, "-c", code], cwd="/", env=words, stdout=subprocess.PIPE, check=True, text=True)
-        self.assertEqual(ran.stdout, "[[0, 1, 128], [3, 4, 5]] True\n")
-
 
 @needs_library
 class Names(unittest.TestCase):
@@ -144,7 +121,7 @@ class Names(unittest.TestCase):
         self.assertIsInstance(library.load(SHARED), ctypes.CDLL)
         self.assertIsNone(library.load(pathlib.Path("/nowhere/libbench.so.1")))
         self.assertIsNone(library.load(TOP / "README.md"))
-        self.assertIn(SHARED, library.PLACES)
+        self.assertIn(SHARED, [folder / library.NAME for folder in library.FOLDERS])
 
 
 @needs_program
@@ -166,8 +143,8 @@ class Alike(InFolder):
         @hypothesis.settings(max_examples=share(300, 20_000), deadline=None, database=None, derandomize=True,
                              suppress_health_check=list(hypothesis.HealthCheck), phases=[hypothesis.Phase.generate])
         @hypothesis.given(scripts())
-        def collect(lines):
-            held.append(lines)
+        def collect(steps):
+            held.append([step.line for step in steps])
 
         collect()
         return held

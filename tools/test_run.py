@@ -7,11 +7,12 @@ import re
 import shutil
 import signal
 import subprocess
+import sys
 import tempfile
 import time
 import unittest
 
-from trials.companion_trials import PATIENT, PROGRAM, TOOL, TOP, InFolder, environment, needs_program, numpy_or_none, share, works
+from trials.companion_trials import COMPANION, PATIENT, PROGRAM, TOOL, TOP, InFolder, environment, needs_program, numpy_or_none, share, works
 from trials import runs as hostile_runs
 from trials import lines as scripts
 
@@ -177,6 +178,47 @@ class Runs(InFolder):
         ]:
             with self.subTest(line):
                 self.assertIn(said, self.tool(before + line)[1])
+
+    def test_hints_are_guests(self):
+        """Whatever becomes of a hint, each line runs: with numbers in a long index array, a time that is none, no second session."""
+        lines = 'i = full |u1 (2001) 9\na = zeros <i4 (3)\nb = a[i]\nb = a[3]\nsave a "a.npy"\n'
+        for seconds in ("30", "0", "", "abc", "inf", "nan", "-1", "9" * 400):
+            with self.subTest(seconds):
+                done = subprocess.run([TOOL, "run", "--dir", self.folder, self.written(lines)], capture_output=True, text=True, timeout=PATIENT,
+                                      env=environment(BENCH_HINT_SECONDS=seconds))
+                self.assertEqual((done.stdout.splitlines()[2:], done.returncode), (["no E11 index out of range"] * 2 + ["ok save 140"], 1))
+                self.assertEqual("BENCH_HINT_SECONDS is not a number from 0 to 3600" in done.stderr, seconds not in ("30", "0", ""))
+                self.assertIn("note: axis 0 of a has length 3: a number in i is outside, -3 to 2 are within", done.stderr)
+                self.assertIn("note: axis 0 of a has length 3: 3 is outside, -3 to 2 are within", done.stderr)
+        code = "import sys; from bench_tool import hints, main; hints.{} = lambda *_, **__: next(iter(())); sys.exit(main.main(['run', '--dir', *sys.argv[1:]]))"
+        for broken in ("Hints._said", "Hints._start", "Session", "tempfile.TemporaryDirectory", "Numbers", "language.codes", "Reading", "translated"):
+            with self.subTest(broken):
+                done = subprocess.run([sys.executable, "-c", code.format(broken), self.folder, self.written(lines + "b = zeros f8 (3)\n")], capture_output=True,
+                                      text=True, env=environment(PYTHONPATH=str(COMPANION)), timeout=PATIENT)
+                self.assertEqual((done.stdout.splitlines()[4:], done.returncode), (["ok save 140", "no E05 descriptor left out"], 1), done.stderr)
+
+    def test_what_nothing_catches(self):
+        """An exception of the tool itself is told in one line, with where it was."""
+        for raised, said in (("1 // 0", r"bench-tool: ZeroDivisionError in <string>, line 1: .*; this is a defect of bench-tool: please report it with this line\n"),
+                             ("[0] * 10**18", "bench-tool: out of memory\n"), ("next(iter(()))", "bench-tool: StopIteration .*report.*\n")):
+            for module, words in (("runs.run", ["run", "-"]), ("show.show", ["show", "a"]), ("page.draw", ["draw", "-"]), ("shell.shell", ["shell"])):
+                code = f"import sys; from bench_tool import main, {module.split('.')[0]}; {module} = lambda _: {raised}; sys.exit(main.main({words}))"
+                done = subprocess.run([sys.executable, "-c", code], capture_output=True, text=True, env=environment(PYTHONPATH=str(COMPANION)))
+                self.assertEqual((done.stdout, done.returncode), ("", 3))
+                self.assertRegex(done.stderr, f"^{said}$")
+
+    def test_ctrl_c_at_once(self):
+        """Ctrl-C while the tool begins ends it with status 130 and no traceback of its own. (One may come of Python itself, before it reads the tool.)"""
+        path, rng = self.written("a = arange <i4 0 9 1\nprint a\n" * 50), random.Random(1)
+        for _ in range(share(10, 100)):
+            for words in (["run", path], ["--help"], ["draw", path], ["show", path]):
+                tool = subprocess.Popen([TOOL, *words], stdout=subprocess.DEVNULL, stderr=subprocess.PIPE, env=environment(), preexec_fn=heard)
+                time.sleep(0.02 + rng.random() * 0.25)
+                tool.send_signal(signal.SIGINT)
+                said = tool.communicate(timeout=PATIENT)[1]
+                self.assertNotIn(b"bench", said if b"Traceback" in said else b"")
+                if b"Traceback" not in said and tool.returncode not in (0, -signal.SIGINT):  # it ended before, or before it began
+                    self.assertEqual(tool.returncode, 1 if b"E28" in said else 130, said)
 
     def test_place_where_a_line_stops(self):
         _, told, _ = self.tool("a = zeros <i4 (3\n")

@@ -2,7 +2,6 @@
 lines, types by mypy and style by ruff where these are installed."""
 import json
 import os
-import random
 import re
 import shutil
 import subprocess
@@ -13,7 +12,6 @@ from unittest import mock
 import test_rows
 from trials import npy_rule
 from trials.companion_trials import PROGRAM, TOP, InFolder, needs_compiler, needs_program, numpy_or_none, share
-from bench_tool import Session, scripts
 
 needs_numpy = unittest.skipUnless(numpy_or_none(), "NumPy is not installed")
 KINDS = ("mixed", "indexes", "masks", "shares", "computing", "formats")
@@ -76,25 +74,6 @@ class NpyRule(unittest.TestCase):
                     said, _ = npy_rule.reply(row.files[found[1].decode()])
                     self.assertEqual(said.replace("ok x", f"ok {name}"), reply.decode(), (row.title, found[1]))
         self.assertGreater(tried, 170)
-
-
-@needs_program
-class Scripts(unittest.TestCase):
-    def test_most_lines_of_every_kind_are_accepted(self):
-        for kind, profile in scripts.PROFILES.items():
-            replies = []
-            for number in range(4):
-                with Session(PROGRAM) as session:
-                    scripts.write(random.Random(f"{kind} {number}"), lambda line: replies.append(session.send(line)) or replies[-1].text, profile)
-            accepted = sum(reply.accepted for reply in replies)
-            self.assertGreater(accepted, 0.65 * len(replies), kind)
-
-    def test_the_same_seed_gives_the_same_script(self):
-        made = []
-        for _ in range(2):
-            with Session(PROGRAM) as session:
-                made.append(scripts.write(random.Random(7), lambda line: session.send(line).text))
-        self.assertEqual(*made)
 
 
 class Tools(unittest.TestCase):

@@ -1,6 +1,8 @@
 """The companion of bench: a prompt, scripts with a place for each refusal, files looked at, pictures of memory."""
 from .bench import Info, Session
+from .commands import Command
+from .parsing import ParseError, parse
 from .session import Array, BenchError, ProgramEnded, ProgramMissing, Refused, Reply
 
-__all__ = ["Array", "BenchError", "Info", "ProgramEnded", "ProgramMissing", "Refused", "Reply", "Session"]
+__all__ = ["Array", "BenchError", "Command", "Info", "ParseError", "ProgramEnded", "ProgramMissing", "Refused", "Reply", "Session", "parse"]
 __version__ = "1.0"

@@ -10,6 +10,7 @@
 """
 from __future__ import annotations
 
+import operator
 import os
 import re
 import tempfile
@@ -61,10 +62,11 @@ class Files(Mapping[str, bytes]):
     (['a.npy'], 132)
     """
 
-    def __init__(self, place: Union[library.Handle, Path]):
-        self._place = place
+    def __init__(self, place: Union[library.Handle, Path], check: Callable[[], None] = lambda: None):
+        self._place, self._check = place, check
 
     def __getitem__(self, name: str) -> bytes:
+        self._check()
         if not FILE_NAME.fullmatch(name):
             raise KeyError(name)
         if isinstance(self._place, Path):
@@ -81,15 +83,18 @@ class Files(Mapping[str, bytes]):
 
     def __setitem__(self, name: str, data: bytes) -> None:
         """Stores a file under a name that a script can give."""
+        self._check()
         if not FILE_NAME.fullmatch(name):
             raise ValueError(f"a script cannot name this file: {name!r}")
+        held = bytes(memoryview(data))  # TypeError for a text
         if isinstance(self._place, Path):
-            (self._place / name).write_bytes(data)
-        elif self._place.put(name.encode(), data) == library.TOO_LONG:
+            (self._place / name).write_bytes(held)
+        elif self._place.put(name.encode(), held) == library.TOO_LONG:
             raise ValueError("a file has at most 2^29 bytes")
 
     def __iter__(self) -> Iterator[str]:
         """The names in order."""
+        self._check()
         if isinstance(self._place, Path):
             found = sorted(entry.name for entry in os.scandir(self._place) if entry.is_file())
         else:
@@ -115,6 +120,9 @@ class Session(session.Session):
     """
 
     def __init__(self, program: Optional[Named] = None, undo: int = 16, dir: Optional[Named] = None):
+        undo = operator.index(undo)
+        if not 0 <= undo <= 64:
+            raise ValueError("undo must be from 0 to 64")
         held = library.loaded() if program is None and dir is None else None
         self._inside: Optional[library.Handle] = None
         self._folder: Optional[tempfile.TemporaryDirectory[str]] = None
@@ -131,7 +139,7 @@ class Session(session.Session):
         except BaseException:
             self._removed()
             raise
-        self.files = Files(Path(dir))
+        self.files = Files(Path(dir), self._check_open)
 
     def send(self, line: Line, take: Optional[Callable[[bytes], Any]] = None) -> Reply:
         """The reply to one line. With `take`, the reply is passed to it in parts, each line with its newline, and the text that is
@@ -207,7 +215,8 @@ class Session(session.Session):
         """
         import numpy
 
-        from .npy import laid_out
+        from .npy import lacking, laid_out
+        self._check_open()
         front, items = laid_out(numpy.asarray(array))
         if self._inside is None:
             assert isinstance(self.files._place, Path)
@@ -218,6 +227,8 @@ class Session(session.Session):
             raise ValueError("an array has at most 2^28 bytes")
         try:
             self.ask(f'{name} = load "{EXCHANGE}"')
+        except Refused as refused:
+            raise Refused(f"put({name!r}, ..) of dtype {items.dtype}{lacking(items.dtype)}", refused.reply) from None
         finally:
             self._clear()
 
@@ -233,7 +244,10 @@ class Session(session.Session):
         import numpy
 
         from .npy import over
-        size = int(self.ask(f'save {name} "{EXCHANGE}"').split()[2])
+        try:
+            size = int(self.ask(f'save {name} "{EXCHANGE}"').split()[2])
+        except Refused as refused:
+            raise Refused(f"get({name!r})", refused.reply) from None
         try:
             if self._inside is None:
                 assert isinstance(self.files._place, Path)
@@ -264,10 +278,13 @@ class Session(session.Session):
     def __enter__(self) -> Session:
         return self
 
-    def _answered(self, line: bytes) -> bytes:
-        """The reply of the library."""
+    def _check_open(self) -> None:
         if self._status is not None:
             raise ProgramEnded(self.program, self._status)
+
+    def _answered(self, line: bytes) -> bytes:
+        """The reply of the library."""
+        self._check_open()
         assert self._inside is not None
         try:
             return self._inside.answer(line.removesuffix(b"\r"))[1]
@@ -276,8 +293,7 @@ class Session(session.Session):
 
     def _batch(self, lines: list[bytes]) -> list[str]:
         """The replies of the program, which are read while the lines are still written."""
-        if self._status is not None:
-            raise ProgramEnded(self.program, self._status)
+        self._check_open()
         told = bytearray()
 
         def write() -> None:

@@ -3,15 +3,21 @@ from __future__ import annotations
 
 import ctypes
 import os
+import platform
+from contextlib import suppress
 from ctypes import byref, c_char_p, c_int, c_size_t, c_void_p
 from functools import lru_cache
 from pathlib import Path
 from typing import Any, Iterator, Optional
 
+from .session import ProgramEnded
+
 NAME = "libbench.so.1"
 HERE = Path(__file__).resolve()
-# Beside this file in a wheel; in the repository; installed by `make install`.
-PLACES = (HERE.with_name(NAME), HERE.parents[2] / "out/library" / NAME, HERE.parents[2] / "dist" / NAME, HERE.parents[2] / NAME)
+# In a wheel; in the repository; installed by `make install`.
+FOLDERS = (HERE.with_name("dist"), HERE.parents[2] / "out/library", HERE.parents[2] / "dist", HERE.parents[2])
+# What a processor of x86-64-v3 has, in the words of Linux.
+V3 = {"abm", "avx2", "bmi1", "bmi2", "f16c", "fma", "movbe"}
 # The statuses and the calls of bench.h.
 OK, REFUSED, NOTHING, NO_MEMORY, TOO_LONG, NO_FILE, NO_ROOM, INVALID, CLOSED = range(9)
 CALLS = {
@@ -25,13 +31,25 @@ CALLS = {
 }
 
 
+@lru_cache(None)
+def names() -> tuple[str, ...]:
+    """The names of the library in a folder, for this machine, the best one first."""
+    if platform.machine() == "aarch64":
+        return (f"aarch64/{NAME}", NAME)
+    with suppress(OSError), open("/proc/cpuinfo", "rb", 0) as told:
+        flags = told.read(1 << 13).decode(errors="replace").partition("\nflags")[2].partition("\n")[0]
+        if V3.issubset(flags.split()):
+            return (f"glibc-hwcaps/x86-64-v3/{NAME}", NAME)
+    return (NAME,)
+
+
 def places() -> tuple[Path, ...]:
     """Where the library is looked for: at BENCH_LIBRARY if that is set (nowhere if it is empty), nowhere if BENCH names a program, and
-    else in PLACES."""
+    else in FOLDERS."""
     named = os.environ.get("BENCH_LIBRARY")
     if named is not None:
         return (Path(named),) if named else ()
-    return () if os.environ.get("BENCH") else PLACES
+    return () if os.environ.get("BENCH") else tuple(folder / name for folder in FOLDERS for name in names())
 
 
 @lru_cache(None)
@@ -53,7 +71,8 @@ def loaded() -> Optional[ctypes.CDLL]:
 
 
 class Handle:
-    """A bench of the library. Each method is one call. `MemoryError` means that the call was out of memory and changed nothing."""
+    """A bench of the library. Each method is one call. `MemoryError` means that the call was out of memory and changed nothing;
+    `ProgramEnded` that the bench is closed."""
 
     def __init__(self, library: ctypes.CDLL, undo: int):
         self._at, self._length = c_void_p(), c_size_t()
@@ -63,7 +82,7 @@ class Handle:
         status = library.bench_open(undo, self._handle)
         if status == INVALID:
             raise ValueError("undo must be from 0 to 64")
-        _check_memory(status)
+        _check(status)
 
     def answer(self, line: bytes) -> tuple[int, bytes]:
         """The status and the reply to a line."""
@@ -77,24 +96,22 @@ class Handle:
 
     def put(self, name: bytes, front: bytes, items: Any = None, size: int = 0) -> int:
         """Stores a file: the bytes of `front`, followed by `size` bytes from the address `items`."""
-        status: int = self._library.bench_put(self._handle, name, len(name), front, len(front), items, size)
-        _check_memory(status)
-        return status
+        return _check(self._library.bench_put(self._handle, name, len(name), front, len(front), items, size))
 
     def size(self, name: bytes) -> Optional[int]:
         """The length of a file in bytes, or None if there is no such file."""
-        status = self._library.bench_get(self._handle, name, len(name), None, 0, self._written)
+        status = _check(self._library.bench_get(self._handle, name, len(name), None, 0, self._written))
         return None if status == NO_FILE else self._length.value
 
     def get(self, name: bytes, address: Any, room: int) -> bool:
         """Copies a file to an address with room for so many bytes, and returns whether the file is there and fits."""
-        return bool(self._library.bench_get(self._handle, name, len(name), address, room, self._written) == OK)
+        return _check(self._library.bench_get(self._handle, name, len(name), address, room, self._written)) == OK
 
     def files(self) -> Iterator[bytes]:
         """The names of the files, in order."""
         room, name = ctypes.create_string_buffer(256), b""
         while True:
-            status = self._library.bench_file(self._handle, name, len(name), room, len(room), self._written)
+            status = _check(self._library.bench_file(self._handle, name, len(name), room, len(room), self._written))
             if status == NO_FILE:
                 return
             if status == NO_ROOM:
@@ -108,9 +125,13 @@ class Handle:
         self._library.bench_close(self._handle)
 
 
-def _check_memory(status: int) -> None:
+def _check(status: int) -> int:
+    """The status of a call that was carried out."""
     if status == NO_MEMORY:
         raise MemoryError("the bench is out of memory")
+    if status == CLOSED:
+        raise ProgramEnded("the bench", 0)
+    return status
 
 
 def address(held: bytearray) -> Any:

@@ -6,9 +6,9 @@ import signal
 import sys
 from typing import Any, Callable, Optional, Sequence
 
-from . import __version__, page, runs, shell, show
+from . import __version__, page, raw, runs, shell, show
 from .session import BenchError
-from .terminal import open_streams, printable, say
+from .terminal import defect, open_streams, printable, say
 
 SIGNALS = (signal.SIGINT, signal.SIGTERM, signal.SIGHUP)
 
@@ -17,6 +17,13 @@ def depth(text: str) -> int:
     """How many changes `undo` can take back."""
     if not text.isdigit() or int(text) > 64:
         raise argparse.ArgumentTypeError("a number from 0 to 64")
+    return int(text)
+
+
+def count(text: str) -> int:
+    """A number of bytes."""
+    if not text.isdigit() or len(text) > 18:
+        raise argparse.ArgumentTypeError("a number of bytes")
     return int(text)
 
 
@@ -38,15 +45,51 @@ def parser() -> argparse.ArgumentParser:
     run = command("run", runs.run, "runs a script and says where each line is refused", script, common)
     run.add_argument("--stop", action="store_true", help="end at the first refusal")
     run.add_argument("--summary", action="store_true", help="say how many lines were accepted and refused")
+    run.add_argument("--explain", action="store_true", help="say which names see what set and upd wrote")
     run.add_argument("--time", action="store_true", help="say how long each line took")
-    shown = command("show", show.show, "shows an NPY file: its header and its items")
-    shown.add_argument("file", metavar="FILE.npy")
+    shown = command("show", show.show, "shows NPY files: type, fields and items, or what is wrong")
+    shown.add_argument("files", metavar="FILE.npy", nargs="+")
     shown.add_argument("--all", action="store_true", help="all items, not only what fits the window")
+    shown.add_argument("--check", action="store_true", help="one line for each file; bytes behind the last item are wrong too")
+    packed = command("pack", raw.pack, "makes an NPY file of raw bytes")
+    packed.add_argument("file", metavar="FILE.bin")
+    packed.add_argument("type", metavar="TYPE", help="the type of an item, as <i4 or T{<I:t:<h:temp:}")
+    packed.add_argument("shape", metavar="SHAPE", help="the shape, as (2,3) or 40; one length may be -1")
+    packed.add_argument("--offset", type=count, default=0, metavar="N", help="where the items begin (default: 0)")
+    packed.add_argument("--order", choices=("C", "F"), default="C", help="the order of the items (default: C)")
+    unpacked = command("unpack", raw.unpack, "writes the items of an NPY file as raw bytes")
+    unpacked.add_argument("file", metavar="FILE.npy")
+    for each, name in ((packed, "FILE.npy"), (unpacked, "FILE.bin")):
+        each.add_argument("-o", dest="output", metavar=name, required=True, help="the file to write")
     draw = command("draw", page.draw, "draws memory line by line, as a page or as SVG", script, common)
     draw.add_argument("-o", dest="output", metavar="PAGE.html", help="the file to write (default: standard output)")
     draw.add_argument("--line", type=int, metavar="N", help="the line that the page opens with, or that is drawn as SVG")
     draw.add_argument("--svg", action="store_true", help="one picture, of line N")
+    add_judge(command("judge", judge, "asks array libraries cases and random scripts, and reports where they are wrong"))
     return made
+
+
+def add_judge(parser: argparse.ArgumentParser) -> None:
+    """The arguments of `judge`."""
+    parser.add_argument("adapters", nargs="*", metavar="ADAPTER", help="a Python file with an adapter of a library")
+    parser.add_argument("--pipe", action="append", default=[], metavar="COMMAND", help="a program that answers questions as JSON lines")
+    parser.add_argument("--only", default="", metavar="WORD", help="the cases with this in their id or feature, or `random`")
+    parser.add_argument("--needs", default="", metavar="WORDS", help="the cases that need all of these, as masks,views")
+    parser.add_argument("--seconds", type=float, default=30, metavar="N", help="how long random scripts are asked (default: 30)")
+    parser.add_argument("--seed", type=int, default=1, metavar="N", help="the seed of the random scripts (default: 1)")
+    parser.add_argument("--processes", type=int, default=2, metavar="N", help="processes of each library (default: 2)")
+    parser.add_argument("--all", action="store_true", help="show also what a library refuses")
+    parser.add_argument("--cases", metavar="FOLDER", help="other cases than those that come with bench-tool")
+    parser.add_argument("--expect", metavar="FILE", help="known findings, which do not count")
+    parser.add_argument("--update", action="store_true", help="write the findings to the file of --expect")
+    for name, form in (("json", "JSON"), ("junit", "JUnit XML"), ("html", "a page")):
+        parser.add_argument(f"--{name}", metavar="FILE", help=f"write the report as {form}")
+
+
+def judge(words: argparse.Namespace) -> int:
+    """Judges array libraries. Only this command takes the time to load the judge."""
+    from .judge import judge as judged
+    return judged(words)
 
 
 def ended(number: int, _: Any) -> None:
@@ -69,9 +112,10 @@ def called(words: argparse.Namespace, arguments: Optional[Sequence[str]]) -> int
 
 
 def main(arguments: Optional[Sequence[str]] = None) -> int:
+    """Carries out the command line and returns the exit status. No exception leaves it."""
     open_streams()
     for number in SIGNALS:
-        if signal.getsignal(number) in (signal.SIG_DFL, signal.default_int_handler):
+        if signal.getsignal(number) is not signal.SIG_IGN:
             signal.signal(number, ended)
     words = argparse.Namespace(call=None)
     try:
@@ -86,4 +130,8 @@ def main(arguments: Optional[Sequence[str]] = None) -> int:
         said = "a standard stream is closed" if fault.errno == errno.EBADF else fault.strerror or str(fault)
         named = f": {os.fsdecode(fault.filename)}" if fault.filename else ""
         say("bench: write fault" if words.call is runs.run else f"bench-tool: {printable(said + named)}")
+    except MemoryError:
+        say("bench-tool: out of memory")
+    except Exception as fault:
+        say(f"bench-tool: {printable(defect(fault), 500)}")
     return 3

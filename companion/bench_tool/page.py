@@ -4,7 +4,6 @@ The page is bench.html, which the repository makes of its folder page/. A pictur
 """
 import argparse
 import json
-import os
 import re
 import shutil
 import subprocess
@@ -13,16 +12,18 @@ import tempfile
 from base64 import b64encode
 from contextlib import suppress
 from pathlib import Path
-from typing import Any, Sequence
+from typing import Any, Iterator, Sequence
 
+from . import whole
+from .commands import Load
+from .parsing import ParseError, parse
 from .session import BenchError
 from .terminal import lines_of, printable
 
 HERE = Path(__file__).resolve()
-PLACES = (HERE.with_name("bench.html"), HERE.parents[1] / "bench.html", HERE.parents[2] / "dist/bench.html")
+PLACES = (HERE.with_name("dist") / "bench.html", HERE.parents[1] / "bench.html", HERE.parents[2] / "dist/bench.html")
 MOST_UNDO = 56  # of the 64 states that a bench keeps, the others are for what is tried
 MOST_FILES = 32 << 20  # bytes of files that go into a page
-LOADED = re.compile(rb'^\s*\w+\s*=\s*load\s*"([\w.-]+)"', re.ASCII)
 GIVEN = re.compile(r'(?<=<script type="application/json" id="given">)[^<]*')
 MODULES = re.compile(r'<script type="module">(.*?)// ---- the page', re.S)
 # Reads what is given and the page from standard input, runs the script, and writes what is asked of its moments.
@@ -53,12 +54,19 @@ def form() -> str:
     return found.read_text(encoding="utf-8")
 
 
+def loaded(lines: Sequence[bytes]) -> Iterator[str]:
+    """The names of the files that lines load."""
+    for line in lines:
+        with suppress(ParseError):
+            if b"load" in line and isinstance(command := parse(line), Load):
+                yield command.file
+
+
 def given(title: str, lines: Sequence[bytes], words: argparse.Namespace) -> dict[str, Any]:
     """The data of the page: the script, and the files that it loads."""
     if words.undo > MOST_UNDO:
         raise BenchError(f"a script that is drawn may go back {MOST_UNDO} changes, not {words.undo}")
-    names = {found[1].decode() for line in lines if (found := LOADED.match(line))}
-    paths = {name: path for name in sorted(names) if (path := Path(words.dir, name)).is_file()}
+    paths = {name: path for name in sorted(set(loaded(lines))) if (path := Path(words.dir, name)).is_file()}
     if sum(path.stat().st_size for path in paths.values()) > MOST_FILES:
         raise BenchError(f"the files of the script have more than {MOST_FILES} bytes")
     files = {name: b64encode(path.read_bytes()).decode() for name, path in paths.items()}
@@ -98,27 +106,9 @@ def picture(lines: Sequence[bytes], words: argparse.Namespace) -> str:
 
 
 def write(path: str, text: str) -> None:
-    """Replaces a file as a whole, or leaves the old one. Anything that is not a regular file is written to directly."""
-    if os.path.exists(path) and not os.path.isfile(path):
-        Path(path).write_text(text, encoding="utf-8")
-        return
-    real = os.path.realpath(path)
-    handle, part = tempfile.mkstemp(dir=os.path.dirname(real), prefix=".", suffix=".part")
-    try:
-        with open(handle, "w", encoding="utf-8") as file:
-            file.write(text)
-        os.chmod(part, os.stat(real).st_mode & 0o777 if os.path.exists(real) else 0o666 & ~umask())
-        os.replace(part, real)
-    except BaseException:
-        with suppress(OSError):
-            os.unlink(part)
-        raise
-
-
-def umask() -> int:
-    kept = os.umask(0o77)
-    os.umask(kept)
-    return kept
+    """Writes a page, whole or not at all."""
+    with whole.replaced(path) as file:
+        file.write(text.encode())
 
 
 def draw(words: argparse.Namespace) -> int:

@@ -3,6 +3,7 @@ import io
 import os
 import shutil
 import sys
+import traceback
 from collections import deque
 from contextlib import suppress
 from typing import BinaryIO, Iterator
@@ -23,6 +24,13 @@ def say(text: str) -> None:
     """Writes to standard error, if possible."""
     with suppress(OSError, ValueError):
         print(text, file=sys.stderr, flush=True)
+
+
+def defect(fault: Exception) -> str:
+    """What is said of an exception that nothing else has caught."""
+    last = traceback.extract_tb(fault.__traceback__)[-1:]
+    place = "".join(f" in {os.path.basename(frame.filename)}, line {frame.lineno}" for frame in last)
+    return f"{type(fault).__name__}{place}: {fault}; this is a defect of bench-tool: please report it with this line"
 
 
 def open_streams() -> None:
