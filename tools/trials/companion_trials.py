@@ -38,8 +38,9 @@ def share(few: T, all_: T) -> T:
 
 
 def environment(**more: str) -> dict[str, str]:
-    """The environment of a companion that is run, with time for its hints on a loaded machine."""
-    return {**os.environ, "BENCH": PROGRAM, "BENCH_HINT_SECONDS": "30", **more}
+    """The environment of a companion that is run, with time for its hints on a loaded machine and Python's own buffers."""
+    own = {name: text for name, text in os.environ.items() if name != "PYTHONUNBUFFERED"}
+    return {**own, "BENCH": PROGRAM, "BENCH_HINT_SECONDS": "30", **more}
 
 
 def numpy_or_none() -> Any:
