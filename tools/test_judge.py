@@ -4,13 +4,10 @@ random scripts for ten minutes."""
 import contextlib
 import io
 import json
-
-
 import random
 import re
 import subprocess
 import sys
-
 import unittest
 from unittest import mock
 
@@ -191,8 +188,12 @@ class Runner(InFolder):
         self.assertRegex(text, r"(?m)^feature +my$")
 
     def test_wrong_words(self):
-        for words in (["nowhere.py"], [], [self.adapter(), "--only", "zzz"], [self.adapter(), "--needs", "zzz"]):
-            self.assertEqual(main(["judge", *map(str, words)]), 3)
+        for words, said in ((["nowhere.py"], "there is no adapter nowhere.py"), ([], "name an adapter"), ([self.adapter(), "--only", "zzz"], "no case is about zzz"),
+                            ([self.adapter(), "--needs", "zzz"], "--needs does not know zzz")):
+            err = io.StringIO()
+            with contextlib.redirect_stderr(err):
+                self.assertEqual(main(["judge", *map(str, words)]), 3)
+            self.assertIn(said, err.getvalue())
 
 
 @needs_library
