@@ -4,13 +4,10 @@ random scripts for ten minutes."""
 import contextlib
 import io
 import json
-
-
 import random
 import re
 import subprocess
 import sys
-
 import unittest
 from unittest import mock
 
@@ -191,8 +188,12 @@ class Runner(InFolder):
         self.assertRegex(text, r"(?m)^feature +my$")
 
     def test_wrong_words(self):
-        for words in (["nowhere.py"], [], [self.adapter(), "--only", "zzz"], [self.adapter(), "--needs", "zzz"]):
-            self.assertEqual(main(["judge", *map(str, words)]), 3)
+        for words, said in ((["nowhere.py"], "there is no adapter nowhere.py"), ([], "name an adapter"), ([self.adapter(), "--only", "zzz"], "no case is about zzz"),
+                            ([self.adapter(), "--needs", "zzz"], "--needs does not know zzz")):
+            err = io.StringIO()
+            with contextlib.redirect_stderr(err):
+                self.assertEqual(main(["judge", *map(str, words)]), 3)
+            self.assertIn(said, err.getvalue())
 
 
 @needs_library
@@ -217,12 +218,14 @@ class NumPy(unittest.TestCase):
             self.assertIn(f"\n| {row}", page)
 
     def test_what_the_cases_say(self):
-        """A part of the cases, asked again: what differs is marked so."""
+        """All cases, asked again: each question in which NumPy differs has the reason that its case says."""
         import numpy
         if numpy.__version__ != next(case.numpy["version"] for case in ALL if case.numpy != "same"):
             self.skipTest("another version of NumPy than that of the cases")
-        for case, verdicts in by_numpy.asked(ALL[::share(11, 1)]):
+        for case, verdicts in by_numpy.asked(ALL):
             self.assertEqual(by_numpy.labelled(case, verdicts, numpy.__version__)["numpy"], case.numpy, case.id)
+            others = [verdict for verdict in verdicts if verdict.verdict not in ("pass", "not supported")]
+            self.assertLessEqual(len(set(map(by_numpy.reason, others))), 1, case.id)
 
 
 class Adapters(unittest.TestCase):
