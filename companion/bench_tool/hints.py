@@ -53,8 +53,8 @@ class Hints(AbstractContextManager["Hints"]):
     """The hints for the refused lines of a session. They are guests of the commands that ask for them: whatever goes wrong here, there
     is only no hint."""
 
-    def __init__(self, session: Session, seconds: float = 0):
-        self.session, self.seconds = session, seconds or seconds_of_a_hint()
+    def __init__(self, session: Session, seconds: float = 0, program: Callable[[], str] = lambda: ""):
+        self.session, self.seconds, self._program = session, seconds or seconds_of_a_hint(), program
         self._end, self._folder, self._held = 0.0, "", ExitStack()
         self._spare: Optional[Trial] = None
         self.offered: list[str] = []  # the lines of the last hint
@@ -65,7 +65,7 @@ class Hints(AbstractContextManager["Hints"]):
     def _start(self) -> None:
         """Starts a second session, without waiting for it."""
         self._spare = None
-        self._spare = spare = Trial(self.session.program, self._folder, self.session.dir)
+        self._spare = spare = Trial(self._program() or self.session.program, self._folder, self.session.dir)
         self._held.callback(spare.close)
         self._held.callback(spare.kill)
 
