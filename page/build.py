@@ -30,14 +30,14 @@ sys.path[:0] = [str(HERE), str(TOP / "companion"), str(TOP / "tools/make")]
 import module as modules  # noqa: E402
 import retarget  # noqa: E402
 import sources  # noqa: E402
-from bench_tool import grammar, language  # noqa: E402
+from bench_tool import grammar, language, numpy_rules  # noqa: E402
 
 DIST, OUT = TOP / "dist", TOP / "out/page"
 PARTS = ("retarget.py", "heap.c", "wide.c")  # of what bench.wasm is made, beside bench_c
 OPTIMIZED = "-Oz"
 CALLS = ("open", "answer", "reply", "put", "get", "file", "close")
 LINKED = ["--no-entry", "--gc-sections", "--strip-all", "--stack-first", "-z", "stack-size=1048576", "--export=malloc", "--export=realloc", "--export=free", *(f"--export=bench_c_{call}" for call in CALLS)]
-SCRIPTS = ("bench", "trace", "picture", "svg", "language", "numpy", "app")
+SCRIPTS = ("bench", "trace", "picture", "svg", "python", "tried", "expressions", "offers", "hints", "language", "numpy", "app")
 IMPORT = re.compile(r"(?m)^import .*\n|^export ")
 COMMENT = re.compile(r"(?ms)^ */\*\*.*?\*/\n|(?m:^ *// (?!---- the page)[^\n]*\n)|(?m:^ +)")  # comments in lines of their own, and indentation
 PROGRAM = re.compile(r'(?<=<script type="application/octet-stream" id="program">)[^<]*')
@@ -88,7 +88,8 @@ def program(module):
 
 
 def tables():
-    """What the page takes from LANGUAGE and from the shell's grammar, and the examples, as JSON. Each rule stands there once, by its number."""
+    """What the page takes from LANGUAGE, from the shell's grammar and from its rules of NumPy, and the examples, as JSON. Each rule of the
+    grammar stands there once, by its number."""
     numbers = {}
 
     def number(rule):
@@ -103,7 +104,8 @@ def tables():
     forms = [[(piece, number(rule)) for piece, rule in form] for form in grammar.forms()]
     ends = {"arrays": [grammar.ARRAY, grammar.VERB, grammar.ARGUMENT], "type": grammar.TYPE, "end": grammar.END, "command": grammar.COMMAND}
     examples = {path.stem: path.read_text() for path in sorted((TOP / "examples").glob("*.bench"))}
-    made = {"forms": forms, "rules": list(numbers), "ends": ends, "operations": language.operations(), "codes": language.codes(), "examples": examples}
+    made = {"forms": forms, "rules": list(numbers), "ends": ends, "operations": language.operations(), "comparisons": language.lists()[1],
+            "codes": language.codes(), "examples": examples, "numpy": numpy_rules.values()}
     return json.dumps(made, separators=(",", ":")).replace("</", "<\\/")
 
 

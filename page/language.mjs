@@ -1,22 +1,26 @@
 // What a line says, by the tables of docs/LANGUAGE.md: its colours, what may stand at a place, and what is said of a refusal.
+import { Rules } from "./tried.mjs";
 
 const TYPES = ["|b1", "|i1", "<i2", "<i4", "<i8", "|u1", "<u2", "<u4", "<u8", "|S8", "T{<i:x:<h:y:}"];
 const TOKENS = /(#.*)|(b'(?:[^'\\]|\\.)*'?|"[^"]*"?)|([A-Za-z_]\w*)|([+-]?\d+)/g;
 
-/** A line read as each form of a command: `far` is the place up to which it reads as some form, and `wanted` what may stand there, each with
+/** A line read as each form of a command, with the parts of the form that fits: `far` is the place up to which it reads as some form, and `wanted` what may stand there, each with
  *  the pieces of the forms from there on. Where `names` are given, only these are arrays. The rules are those of grammar.py. */
 class Reading {
   constructor({ forms, rules, pattern, ends }, line, names) {
-    Object.assign(this, { rules, pattern, ends, line, names, far: 0, wanted: new Map(), behind: [] });
+    Object.assign(this, { rules, pattern, ends, line, names, far: 0, wanted: new Map(), behind: [], parts: [] });
     this.isWhole = forms.some(form => this.form(form));
   }
 
   form(form) {
     let at = 0;
-    for (const [k, [, rule]] of form.entries()) {
-      this.behind = form.slice(k).map(([piece]) => piece);
-      at = this.read(rule, at);
-      if (at === null) return false;
+    this.parts = [];
+    for (const [k, [piece, rule]] of form.entries()) {
+      this.behind = form.slice(k).map(([each]) => each);
+      const end = this.read(rule, at);
+      if (end === null) return false;
+      this.parts.push({ piece, text: this.line.slice(this.skip(at), end) });
+      at = end;
     }
     this.behind = [];
     return this.skip(at) === this.line.length || this.want(at, this.ends.end) !== null;
@@ -66,11 +70,15 @@ class Reading {
 
 /** The words of the language, by its tables: the forms of its commands and their rules, what OP, UN and RED stand for, and its codes. */
 export class Language {
-  constructor({ forms, rules, ends, operations, codes, examples }) {
+  constructor({ forms, rules, ends, operations, comparisons, codes, examples, numpy }) {
     const patterns = new Map(), words = ends.words = [...new Set([...forms.flat().flatMap(([piece]) => operations[piece] ?? (/^[a-z]{2,}$/.test(piece) ? [piece] : [])), "True", "False", "None"])];
     const pattern = text => patterns.get(text) ?? patterns.set(text, new RegExp(text, "y")).get(text);
-    Object.assign(this, { forms, rules, ends, operations, codes, examples, words, pattern, hints: new WeakMap() });
+    Object.assign(this, { forms, rules, ends, operations, codes, examples, words, pattern, known: new WeakMap() });
+    this.rulesOfNumPy = new Rules(numpy, { forms, operations, words, codes, comparisons });
   }
+
+  /** The parts of a line that is a command: the pieces of its form, each with its text. */
+  partsOf(line) { return new Reading(this, line).parts; }
 
   isReserved(word) { return this.words.includes(word); }
 
@@ -83,21 +91,27 @@ export class Language {
     return { stem, words: [...new Set(words)].filter(word => word.startsWith(stem) && word !== stem), told: [...wanted.keys()].filter(what => what !== end || wanted.size > 1).join(", ") };
   }
 
-  /** What is said of a refused line: where it stops being a command and what may stand there, or when its code comes and what its arrays are. */
-  hint(moment) {
-    if (!this.hints.has(moment)) this.hints.set(moment, this.hinted(moment));
-    return this.hints.get(moment);
+  /** What is said of a refused line: the lines that are offered for it; where it stops being a command and what may stand there, or the
+   *  numbers behind its code. `hints` tries lines, and `file` gives the bytes of a file. */
+  hint(moment, hints, file) {
+    if (!this.known.has(moment)) this.known.set(moment, this.hinted(moment, hints, file));
+    return this.known.get(moment);
   }
 
-  hinted({ line, reply, before, words }) {
+  hinted({ line, reply, before, arrays }, hints, file) {
+    const names = [...before.names.keys()], { offered, told } = arrays && hints ? hints.said(line, reply.code, { names, arrays, file }) : { offered: [], told: [] };
     if (reply.code === "E03") {
-      const { at, what } = new Reading(this, line, new Set(before.names.keys())).told;
-      return { at, text: what.length ? `expected ${what.slice(0, 4).join(" or ")}` : "" };
+      const { at, what } = new Reading(this, line, new Set(names)).told, isAnswered = offered.length || told.some(text => /^`.*` is then E|^\w+ is not bound/.test(text));
+      return { at: isAnswered ? undefined : at, offered, text: [...told, ...isAnswered || !what.length ? [] : [`expected ${what.slice(0, 4).join(" or ")}`]].join("; ") };
     }
-    const unknown = reply.code === "E06" && line.replace(/^\s*\w+\s*=|"[^"]*"|b'[^']*'/g, "").match(/[A-Za-z_]\w*/g)?.find(word => !this.isReserved(word) && !before.names.has(word));
-    if (unknown) return { text: `${unknown} is not bound${before.names.size ? `; bound: ${[...before.names.keys()].slice(0, 10).join(" ")}` : ""}` };
-    const arrays = [...words].filter(word => before.names.has(word)).slice(0, 4).map(word => before.names.get(word).array);
-    return { text: [this.codes[reply.code]?.[1], ...arrays.map(({ name, type, shape }) => `${name} is ${type} (${shape.join(", ")}${shape.length === 1 ? "," : ""})`)].filter(Boolean).join("; ") };
+    if (reply.code === "E06") return { offered, text: this.unbound(line, names) ?? this.codes.E06[1] };
+    return { offered, text: told[0] ?? this.codes[reply.code]?.[1] ?? "" };
+  }
+
+  /** Which word of a line is not bound. */
+  unbound(line, names) {
+    const word = line.replace(/^\s*\w+\s*=|"[^"]*"|b'[^']*'/g, "").match(/[A-Za-z_]\w*/g)?.find(each => !this.isReserved(each) && !names.includes(each));
+    return word && `${word} is not bound${names.length ? `; names: ${names.slice(0, 10).join(" ")}${names.length > 10 ? " .." : ""}` : ""}`;
   }
 
   /** The parts of a line, each with what it is: a comment, a text, a word of the language, a name or a number. */

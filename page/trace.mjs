@@ -13,6 +13,10 @@ const MOST_PLACES = 4096; // of the values that a line writes, those that are lo
 const ENDS = 8; // of the items of a name that came, or that were written, those around which a long buffer is drawn
 const NO_ROOM_LEFT = "out of memory"; // as bench.mjs says it
 const WORD = /[A-Za-z_]\w*/g;
+const READ = /(?<![\w'"])[A-Za-z_]\w*/g; // the words that are not in quotes
+const NEEDS_ARRAYS = /^E(0[34589]|1\d|2[0-5]|3[23])$/; // the refusals of which more is said by the arrays of the line
+const MOST_KNOWN = 12; // names of a refused line that are looked at
+export const MOST_OWN = 2000; // items of an array that are read for it
 const ODD = /[^\t -~]/g;
 const BOUND = /^ok (\w+) .* (new|view|copy)(?: rest \d+)?$/;
 const INFO = /^info \w+ (.*) (\([\d, ]*\)) strides (\([-\d, ]*\)) at (\d+) order ([CF]+|-) write (yes|no)$/;
@@ -25,6 +29,7 @@ const SOURCE = /^\s*set\s[^=]*=\s*([A-Za-z_]\w*(?:\[[^\]]*\])?)\s*$/; // those t
 export const product = numbers => numbers.reduce((left, right) => left * right, 1);
 export const range = (from, to) => Array.from({ length: Math.max(0, to - from) }, (_, k) => from + k);
 export const wordsOf = text => text.match(WORD) ?? [];
+export const wordsRead = text => [...new Set(text.match(READ) ?? [])];
 const numbersIn = text => (text.match(/-?\d+/g) ?? []).map(Number);
 const remainder = (value, by) => ((value % by) + by) % by;
 
@@ -69,7 +74,7 @@ function ask(bench, line) {
 }
 
 /** What `info` tells of a name. */
-function arrayOf(bench, name) {
+export function arrayOf(bench, name) {
   const [, type, shape, strides, at, order, write] = INFO.exec(ask(bench, `info ${name}`));
   return { name, type, shape: numbersIn(shape), strides: numbersIn(strides), at: Number(at), order, writable: write === "yes" };
 }
@@ -168,9 +173,9 @@ export class Bound {
   }
 }
 
-/** A stretch of memory: items one after another, and those of their values that were looked at, by their bytes. */
+/** A stretch of memory: items one after another, and those of their values that were looked at, by their bytes. `printed` has the items of arrays in it. */
 class Memory {
-  constructor(kind, count, values = new Map()) { Object.assign(this, { kind, count, values }); }
+  constructor(kind, count, values = new Map()) { Object.assign(this, { kind, count, values, printed: new Map() }); }
 
   /** Where the items begin that are drawn: fewer of long ones and of those with many values. */
   starts(focus = []) {
@@ -180,6 +185,8 @@ class Memory {
   }
 }
 
+const NOTHING_DONE = new Map();
+
 /** Names in their order, and buffers by their numbers. */
 class State {
   constructor(names = new Map(), buffers = new Map()) { Object.assign(this, { names, buffers }); }
@@ -188,12 +195,15 @@ class State {
 }
 
 /** A line of the script with its reply; the states before and after it; for each buffer the bytes around which it is drawn; the bytes
- *  of the values that the line wrote; where those came from that it moved; the number of the line that it took back; and whether there was no room to find these out. */
+ *  of the values that the line wrote; where those came from that it moved; the number of the line that it took back; of a refused line the
+ *  arrays that it names; and whether there was no room to find these out. */
 export class Moment {
-  constructor(number, line, reply, before, after, { focus, written = new Map(), moved = new Map(), undone, isBlind = false }) {
-    Object.assign(this, { number, line, reply, before, after, focus, written, moved, undone, isBlind });
-    this.words = new Set(wordsOf(line.slice(0, 10_000)).filter(word => before.names.has(word) || after.names.has(word)));
+  constructor(number, line, reply, before, after, { focus, written = NOTHING_DONE, moved = NOTHING_DONE, undone, arrays, isBlind = false }) {
+    Object.assign(this, { number, line, reply, before, after, focus, written, moved, undone, arrays, isBlind });
   }
+
+  /** The names that the line has. */
+  get words() { return this.found ??= new Set(wordsOf(this.line.slice(0, 10_000)).filter(word => this.before.names.has(word) || this.after.names.has(word))); }
 
   /** The buffers that differ, and those in which names came or went. */
   get touched() {
@@ -229,11 +239,21 @@ export class Trace {
     const verb = /^ok (\w+)/.exec(reply.text)?.[1];
     if (verb === "save") this.share(line);
     const did = !verb || verb === "save" || this.isBlind ? undefined : this.followed(line, reply, verb);
-    if (!did) return new Moment(this.lines, text, reply, before, before, { focus: this.focus, isBlind: this.isBlind });
+    if (!did) return new Moment(this.lines, text, reply, before, before, { focus: this.focus, arrays: NEEDS_ARRAYS.test(reply.code) ? this.named(line) : undefined, isBlind: this.isBlind });
     if (verb !== "undo") this.kept.push([before, did.focus, this.lines]);
     if (this.kept.length > MOST_UNDO) this.kept.shift();
     this.focus = new Map([...this.focus, ...did.focus]);
     return new Moment(this.lines, text, reply, before, this.state, { ...did, focus: this.focus });
+  }
+
+  /** The arrays that a line names, each with its items as they are printed, if they are few. */
+  named(line) {
+    const { names, buffers } = this.state;
+    return wordsRead(line.slice(0, 400)).filter(word => names.has(word)).slice(0, MOST_KNOWN).map(word => {
+      const bound = names.get(word), { printed } = buffers.get(bound.buffer), isShort = bound.items <= MOST_OWN && bound.items * bound.kind.size <= AT_ONCE;
+      if (isShort && !printed.has(bound)) printed.set(bound, this.bench.answer(`print ${word}`).text);
+      return { array: bound.array, items: printed.get(bound) };
+    });
   }
 
   /** The second bench gets the file that a line saved. */
@@ -290,7 +310,7 @@ export class Trace {
 
   /** The state after a change, without the buffers that no name sees any more. */
   turn(names, buffers) {
-    const kept = new Map(names), used = new Set([...kept.values()].map(bound => bound.buffer));
+    const kept = names instanceof Map ? names : new Map(names), used = new Set([...kept.values()].map(bound => bound.buffer));
     this.state = new State(kept, new Map([...buffers].filter(([number]) => used.has(number))));
   }
 

@@ -12,6 +12,7 @@
 - REASONS: what there is not, and why.
 """
 import json
+from typing import Any
 
 TARGET = r"([A-Za-z_]\w*(?:\.[A-Za-z_]\w*)*\s*(?:\[(?:[^\[\]]|\[[^\[\]]*\])*\])*)"
 SIGN = r"(\*\*|//|<<|>>|[-+*%&|^/@])"
@@ -134,9 +135,14 @@ REASONS = {
 }
 
 
-def main() -> None:
+def values() -> dict[str, Any]:
+    """All rules, by their names."""
     names = ("LINES", "OPERATORS", "TURNED", "WORDS", "TYPES", "AND", "CALLS", "REASONS", "NO_FLOATS", "NO_TEXT")
-    print(json.dumps({name: globals()[name] for name in names}, indent=1))
+    return {name: globals()[name] for name in names}
+
+
+def main() -> None:
+    print(json.dumps(values(), indent=1))
 
 
 if __name__ == "__main__":

@@ -10,11 +10,12 @@ import re
 import warnings
 from typing import Any, NamedTuple, Optional, Sequence
 
-import numpy as np
-
 from bench_tool.session import Session
 
 from . import TOP
+from .companion_trials import numpy_or_none
+
+np = numpy_or_none()
 
 ROWS = TOP / "tools/rows/numpy_lines.txt"
 # The arrays that all rows begin with. m is a view of a, and w repeats it.

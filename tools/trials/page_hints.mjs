@@ -1,0 +1,19 @@
+// node page_hints.mjs <GIVEN >SAID: what the page says of refused lines. Of JSON with the page's tables, the lines that a script begins with and the
+// lines that are typed then; out come the reply's code, the offered lines and the text of each, or null for an accepted one.
+import { readFileSync } from "node:fs";
+import { Bench, load } from "../../dist/bench.mjs";
+import { Trace } from "../../page/trace.mjs";
+import { Hints } from "../../page/hints.mjs";
+import { Language } from "../../page/language.mjs";
+
+const program = await WebAssembly.compile(readFileSync(new URL("../../dist/bench.wasm", import.meta.url)));
+const { tables, begin, typed } = JSON.parse(readFileSync(0, "utf8")), language = new Language(tables), spare = await load(program), calls = await load(program);
+const trace = new Trace(undo => new Bench(calls, undo), { undo: 16, text: "" }), hints = new Hints(language, () => new Bench(spare, 0));
+for (const line of begin) trace.step(line);
+const said = typed.map(line => {
+  trace.free = "_page_free";
+  const moment = trace.step(line);
+  if (/^ok (?!save)/.test(moment.reply.text)) trace.step("undo");
+  return moment.reply.accepted ? null : { code: moment.reply.code, ...language.hint(moment, hints, name => trace.bench.files.get(name)) };
+});
+process.stdout.write(JSON.stringify(said));
