@@ -22,6 +22,7 @@ MOST_DEATHS = 12  # of one feature, after which the rest of it is not asked
 MOST_DEATHS_OF_CASE = 3
 MOST_CAUSES = 40  # of random scripts
 BATCH = 25  # cases that a process takes at a time
+RANDOM_ID = "random/"  # the ids of random scripts begin so
 # The methods of an adapter that a command calls, if they are not called as the command.
 CALLS = {"zeros": "make", "full": "make", "arange": "make", "array": "make", "set": "put", "upd": "update"}
 
@@ -184,7 +185,7 @@ def ask_scripts(results: Results, seed: int, seconds: float, processes: int, tol
             scripts, other = Scripts(Random(f"{seed} {number}"), asker.worker.has, asker.worker.can), Oracle()
             count = 0
             while time.monotonic() < until and len(raw) < most:
-                question = scripts.question(f"random/{seed}.{number}.{count}")
+                question = scripts.question(f"{RANDOM_ID}{seed}.{number}.{count}")
                 count += 1
                 verdict = asker.verdict(question, [step.shown for step in scripts.steps])
                 with lock:
