@@ -189,6 +189,15 @@ class Runner(InFolder):
             text = judged(self.adapter(hangs), "--only", "indexes/0001", "--seconds", 0, "--processes", 1, status=1)
         self.assertIn("no answer in", text)
 
+    def test_late_death(self):
+        """The question that a library does not survive is reported, not the one after it."""
+        hurt = ("    def take(self, a, index):\n        self.hurt = index == (-2,)\n        return lib.take(a, index)\n"
+                "    def make(self, type, shape, items):\n        if getattr(self, 'hurt', False): os.kill(os.getpid(), 11)\n        return lib.make(type, shape, items)\n")
+        text = judged(self.adapter(hurt), "--only", "integers", "--seconds", 0, "--processes", 1, "--json", self.folder / "r.json", status=1)
+        findings = json.loads((self.folder / "r.json").read_text())["programs"][0]["findings"]
+        self.assertEqual({each["lines"][-1] for each in findings}, {"x = a[-2]"}, text)
+        self.assertIn("SIGSEGV", text)
+
     def test_what_it_lacks_is_no_failure(self):
         text = judged(self.adapter("    def put(self, a, index, value): raise NotImplementedError('no writes')\n", "i8 steps"), "--only", "slices/00", "--seconds", 0, status=0)
         self.assertNotIn("WRONG", text)

@@ -97,7 +97,7 @@ def finding_text(finding: Finding) -> str:
     parts += [f"    {line}" for line in first.question.lines]
     if finding.calls:
         parts += ["  as calls:", *(f"    {printable(call, 200)}" for call in finding.calls)]
-    parts += [f"  got    {(first.name + ' = ') * bool(first.name)}{printable(first.got, 600)}", f"  right  {printable(first.right or 'an answer', 600)}"]
+    parts += [f"  got    {(first.name + ' = ') * bool(first.name)}{printable(first.got, 600)}", f"  right  {printable(first.right, 600)}"]
     if first.what and first.verdict == "wrong":
         parts.append(f"  differs in {first.what}")
     if finding.large:
