@@ -14,8 +14,11 @@ from unittest import mock
 from cases import by_numpy
 from trials import judging
 from trials.companion_trials import COMPANION, TOP, InFolder, numpy_or_none, share
-from bench_tool import cases, judge_adapter, library, needs
-from bench_tool.judge_oracle import Oracle
+from bench_tool import cases, judge_adapter, library, needs, parse
+from bench_tool.judge_oracle import Oracle, question_of
+from bench_tool.judge_report import Finding, finding_text
+from bench_tool.judge_shrink import is_small, shrunk, size_of
+from bench_tool.judge_verdicts import Verdict
 from bench_tool.main import main
 
 ALL = cases.read(place=TOP / "vectors")
@@ -122,6 +125,33 @@ class Planted(unittest.TestCase):
         found = [fault for fault in faults if judging.found_at_random(self.adapter, fault, share(1500, 6000), random.Random(2))]
         self.assertGreaterEqual(len(found), share(4, 18), found)
 
+    @needs_library
+    def test_random_findings_are_small(self):
+        """Each finding of random scripts is shrunk to at most six steps and 12 items."""
+        tried = 0
+        for fault in sys.modules["planted_library"].FAULTS[::share(5, 1)]:
+            found = judging.found_at_random(self.adapter, fault, share(300, 3000), random.Random(3))
+            if found:
+                least = judging.least_of(self.adapter, found, fault)
+                self.assertEqual(least.verdict, found.verdict)
+                self.assertTrue(is_small(least.question.commands), (fault, least.question.lines))
+                self.assertEqual(Finding([least]).large, "")
+                tried += 1
+        self.assertGreaterEqual(tried, share(5, 40))
+
+    @needs_library
+    def test_a_finding_that_stays_large(self):
+        """The report says that a finding could not be made small."""
+        def ask(question):
+            return Verdict("wrong" if size_of(question.commands)[1] > 13 else "pass", question, "items", "x", len(question.commands) - 1)
+
+        oracle = Oracle()
+        steps = oracle.steps([parse(f"a = array <i4 (25) {' '.join(map(str, range(25)))}"), parse("b = neg a"), parse("x = sum b")])
+        least = shrunk(ask(question_of("random/1.0.0", "random scripts", steps)), ask, needs.ALL, oracle)
+        self.assertEqual(size_of(least.question.commands), (2, 14))
+        self.assertIn("\n  not made smaller than 2 steps and 14 items\n", finding_text(Finding([least])) + "\n")
+        self.assertEqual(Finding([least]).to_json()["large"], "not made smaller than 2 steps and 14 items")
+
 
 @needs_library
 class Runner(InFolder):
@@ -158,6 +188,15 @@ class Runner(InFolder):
         with mock.patch("bench_tool.judge_runs.PATIENCE", 1.0), mock.patch("bench_tool.judge_runs.Worker.ask.__defaults__", (1.0,)):
             text = judged(self.adapter(hangs), "--only", "indexes/0001", "--seconds", 0, "--processes", 1, status=1)
         self.assertIn("no answer in", text)
+
+    def test_late_death(self):
+        """The question that a library does not survive is reported, not the one after it."""
+        hurt = ("    def take(self, a, index):\n        self.hurt = index == (-2,)\n        return lib.take(a, index)\n"
+                "    def make(self, type, shape, items):\n        if getattr(self, 'hurt', False): os.kill(os.getpid(), 11)\n        return lib.make(type, shape, items)\n")
+        text = judged(self.adapter(hurt), "--only", "integers", "--seconds", 0, "--processes", 1, "--json", self.folder / "r.json", status=1)
+        findings = json.loads((self.folder / "r.json").read_text())["programs"][0]["findings"]
+        self.assertEqual({each["lines"][-1] for each in findings}, {"x = a[-2]"}, text)
+        self.assertIn("SIGSEGV", text)
 
     def test_what_it_lacks_is_no_failure(self):
         text = judged(self.adapter("    def put(self, a, index, value): raise NotImplementedError('no writes')\n", "i8 steps"), "--only", "slices/00", "--seconds", 0, status=0)

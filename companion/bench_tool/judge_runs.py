@@ -142,6 +142,16 @@ class Worker:
             return Died("an answer that is not JSON", repr(line[:200]))
         return answer
 
+    def ended(self) -> Optional[Died]:
+        """Has the program end by itself. How it died, if it did."""
+        assert self._process is not None and self._process.stdin is not None
+        self._process.stdin.close()
+        try:
+            is_well = self._process.wait(PATIENCE) >= 0
+        except subprocess.TimeoutExpired:
+            is_well = True
+        return None if is_well else Died(self._ending(), self._said())
+
     def close(self) -> None:
         """Ends the program."""
         self._end()

@@ -10,7 +10,9 @@ from unittest import mock
 from bench_tool import cases, judge_adapter
 from bench_tool.cases import Case, Question
 from bench_tool.judge_asking import methods_of
+from bench_tool.judge_oracle import Oracle
 from bench_tool.judge_random import Scripts
+from bench_tool.judge_shrink import shrunk
 from bench_tool.judge_verdicts import Verdict, judged
 
 from . import TOP
@@ -75,3 +77,12 @@ def found_at_random(adapter: Any, fault: str, scripts: int, rng: Random) -> Opti
             if verdict.verdict in FINDINGS:
                 return verdict
     return None
+
+
+def least_of(adapter: Any, found: Verdict, fault: str) -> Verdict:
+    """The smallest script that shows a finding of random scripts."""
+    def ask(question: Question) -> Verdict:
+        return next(verdicts(adapter, [question]))
+
+    with planted(fault):
+        return shrunk(found, ask, frozenset(judge_adapter.hello(adapter)["has"]), Oracle())
