@@ -7,9 +7,7 @@ import json
 import os
 import re
 import subprocess
-import tempfile
 import unittest
-from pathlib import Path
 from unittest import mock
 
 from trials import browsers
@@ -199,40 +197,38 @@ class Example(InFolder):
 @needs_program
 @needs_jupyter
 class InJupyter(InFolder):
-    def run_example(self, **more):
-        """The example as nbconvert leaves it when it has run it, as a notebook and as a page."""
-        env = {**os.environ, "PYTHONPATH": str(COMPANION), "HOME": str(self.folder), "JUPYTER_PLATFORM_DIRS": "1", **more}
-        for form in "notebook", "html":
-            words = [PYTHON, "-m", "nbconvert", "--execute", "--to", form, "--output-dir", self.folder, "--output", "made", TOP / "examples/notebook.ipynb"]
-            done = subprocess.run(words, capture_output=True, text=True, env=env, cwd=self.folder, timeout=PATIENT)
-            self.assertEqual(done.returncode, 0, done.stderr)
-        return json.loads((self.folder / "made.ipynb").read_text()), self.folder / "made.html"
+    def convert(self, form, *words, **more):
+        """What nbconvert makes of a notebook."""
+        env = {**os.environ, "PYTHONPATH": str(COMPANION), "HOME": str(self.folder), **more}
+        made = [PYTHON, "-m", "nbconvert", "--to", form, "--output-dir", self.folder, "--output", "made", *words]
+        done = subprocess.run(made, capture_output=True, text=True, env=env, cwd=self.folder, timeout=PATIENT)
+        self.assertEqual(done.returncode, 0, done.stderr)
+        return self.folder / f"made.{'ipynb' if form == 'notebook' else form}"
+
+    def seen(self, path, kind, ready):
+        """In a browser the four pictures are ready, and no error is reported but for the scripts of nbconvert's page that are not there."""
+        with browsers.Chromium() as browser:
+            tab = browser.open(path.as_uri())
+            tab.wait(f"document.readyState == 'complete' && (found => found.length == 4 && found.every({ready}))([...document.querySelectorAll('{kind}')])")
+            self.assertEqual([fault for fault in browser.faults if "ERR_FILE_NOT_FOUND" not in fault], [])
 
     @needs_node
     def test_it_runs(self):
-        """Its outputs are those that stand there."""
-        made, _ = self.run_example()
+        """Its outputs are those that stand there, and a browser shows the pictures."""
+        path = self.convert("notebook", "--execute", TOP / "examples/notebook.ipynb")
+        made = json.loads(path.read_text())
         for cell, kept in zip(made["cells"], EXAMPLE["cells"]):
             if cell["cell_type"] == "code":
                 self.assertEqual(printed(cell), printed(kept), source(cell))
         self.assertEqual(pictures(made["cells"]), pictures(EXAMPLE["cells"]))
-        self.assertEqual(len(pictures(made["cells"])), 4)
+        if browsers.CHROMIUM:
+            self.seen(self.convert("html", path), "img[src^=data]", "image => image.naturalWidth >= 720")
 
     @unittest.skipUnless(browsers.CHROMIUM, "chromium is not installed")
-    def test_it_is_seen(self):
-        """With Node as images, without it drawn by the browser, which fetches nothing and reports no error."""
-        without = Path(tempfile.mkdtemp(dir=self.folder))
-        for kind, more in ("img", {}), ("iframe", {"PATH": str(without)}):
-            _, path = self.run_example(**more)
-            with self.subTest(kind), browsers.Chromium() as browser:
-                tab = browser.open(path.as_uri())
-                tab.wait(f"document.readyState == 'complete' && document.querySelectorAll('{kind}[src^=data], {kind}[srcdoc]').length == 4")
-                if kind == "img":
-                    tab.wait("[...document.querySelectorAll('img[src^=data]')].every(image => image.naturalWidth >= 720)")
-                else:
-                    tab.wait("[...document.querySelectorAll('iframe')].every(frame => frame.contentDocument.querySelector('svg desc') && parseInt(frame.style.height) > 100)")
-                    self.assertEqual(tab.ask("document.querySelector('iframe').contentDocument.querySelector('desc').textContent"), "1 value in buffer 1 changes, seen by image and mirrored.")
-                self.assertEqual([fault for fault in browser.faults if "ERR_" not in fault], [])
+    def test_it_runs_without_node(self):
+        """The browser draws the pictures, which fetch nothing, and makes their frames as high as they are."""
+        path = self.convert("html", "--execute", TOP / "examples/notebook.ipynb", PATH=str(self.folder))
+        self.seen(path, "iframe[srcdoc]", "frame => frame.contentDocument.querySelector('svg desc') && parseInt(frame.style.height) > 100")
 
 
 if __name__ == "__main__":
