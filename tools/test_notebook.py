@@ -20,8 +20,18 @@ from test_draw import needs_node
 np = numpy_or_none()
 EXAMPLE = json.loads((TOP / "examples/notebook.ipynb").read_text())
 PYTHON = "/usr/bin/python3"  # Debian's, which has its packages
-HAS_JUPYTER = works(PYTHON, "-c", "import nbconvert, ipykernel, numpy")
+HAS_JUPYTER = works(PYTHON, "-c", "import nbconvert, ipykernel, jupyter_client, numpy")
 needs_jupyter = unittest.skipUnless(HAS_JUPYTER, "there is no nbconvert and no ipykernel")
+# Runs cells in a kernel, and prints what it puts into the next one.
+ASKS = """
+import json, sys
+from jupyter_client.manager import start_new_kernel
+manager, client = start_new_kernel(kernel_name="python3")
+replies = [client.execute_interactive(cell, output_hook=lambda _: None, timeout=600)["content"] for cell in json.loads(sys.argv[1])]
+client.stop_channels()
+manager.shutdown_kernel(now=True)
+print(json.dumps([[each["text"], each["replace"]] for reply in replies for each in reply["payload"]]))
+"""
 WORDS = re.compile('<desc id="words">(.*?)</desc>')
 
 
@@ -211,6 +221,13 @@ class InJupyter(InFolder):
             tab = browser.open(path.as_uri())
             tab.wait(f"document.readyState == 'complete' && (found => found.length == 4 && found.every({ready}))([...document.querySelectorAll('{kind}')])")
             self.assertEqual([fault for fault in browser.faults if "ERR_FILE_NOT_FOUND" not in fault], [])
+
+    def test_the_next_cell(self):
+        """The kernel hands over the cell with the offered lines."""
+        env = {**os.environ, "PYTHONPATH": str(COMPANION), "HOME": str(self.folder)}
+        cells = ["%load_ext bench_tool", "%%bench\na = arange <i4 0 4 1\na[0] = 9\na", "%bench --take"]
+        done = subprocess.run([PYTHON, "-c", ASKS, json.dumps(cells)], capture_output=True, text=True, env=env, cwd=self.folder, timeout=PATIENT)
+        self.assertEqual(json.loads(done.stdout), [["%%bench\nset a[0] = 9\na", False]])
 
     @needs_node
     def test_it_runs(self):

@@ -58,7 +58,7 @@ class Notebook:
                 self.put(words)
             else:
                 self.run(self.offered if takes else [line], takes)
-        except (BenchError, OSError, TypeError, ValueError) as fault:
+        except (BenchError, ImportError, OSError, TypeError, ValueError) as fault:
             print(f"    {printable(str(fault), 500)}")
 
     def is_array(self, word: str) -> bool:
