@@ -69,6 +69,7 @@ class Cells(InFolder):
                          "no E06 unknown name: print q\n    q is not bound\n    names: s head\n[0 5 0 0]\n")
         self.assertIn("E18 bad reshape", notebook.cell("%bench help reshape"))
         self.assertIn("--take or nothing", notebook.cell("%%bench --what\ns = zeros <i2 (1)"))
+        self.assertEqual(notebook.cell("%bench x = s[1]"), "ok x <i2 () view\n    a view of one item; in NumPy it is a copy (`copy x C`)\n")
         self.assertEqual(notebook.cell("%bench info s"), "info s <i2 (4,) strides (2,) at 0 order CF write yes\n")
 
     def test_offered_lines(self):
@@ -76,7 +77,7 @@ class Cells(InFolder):
         notebook = self.notebook()
         said = notebook.cell("%%bench\na = np.arange(4, dtype='i4')\na[:2] += 1\na")
         self.assertEqual(said, "no E03 syntax: a = np.arange(4, dtype='i4')\n    write: a = arange <i4 0 4 1\n"
-                               "    (the next cell has these, and the rest of this one; %bench --take runs the same)\n")
+                               "    (the next cell has them, and the rest of this one; %bench --take runs the same)\n")
         self.assertEqual(notebook.next, "%%bench\na = arange <i4 0 4 1\na[:2] += 1\na")
         self.assertEqual(notebook.cell("%bench --take"), "ok a <i4 (4,) new\nbench> upd a[:2] add 1\nok upd 2\n    seen by a only\n[1 2 2 3]\n")
         self.assertEqual((notebook.next, notebook.cell("%bench --take")), (None, ""))

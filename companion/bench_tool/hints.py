@@ -20,7 +20,7 @@ from .header import NO_KIND
 from .session import Array, BenchError, Reply, Session
 from .terminal import printable, say
 from .numpy_rules import TYPES
-from .seen import seen_by
+from .seen import one_item, seen_by
 from .translate import translated
 from .trials import Trial, like
 
@@ -100,6 +100,12 @@ class Hints(AbstractContextManager["Hints"]):
                 return seen_by(self.session, line)
             with self._trial(index) as trial:
                 return seen_by(self.session, line, trial)
+        return ""
+
+    def one_item(self, line: str) -> str:
+        """What differs from NumPy after an accepted line that binds a name to one item. It raises nothing."""
+        with suppress(Exception):
+            return one_item(self.session, line)
         return ""
 
     def _said(self, line: str, reply: Reply) -> list[str]:
