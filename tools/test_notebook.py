@@ -164,7 +164,7 @@ class Drawings(InFolder):
         with Session() as bench:
             self.assertRaisesRegex(BenchError, "no line has changed anything", bench.draw)
             bench.files["a.npy"] = b"\x93NUMPY\x01\x00v\x00" + b"{'descr': '|u1', 'fortran_order': False, 'shape': (12000000,), }".ljust(117) + b"\n" + bytes(12_000_000)
-            bench.run(f'a = load "a.npy"\nb = load "a.npy"', check=True)
+            bench.run('a = load "a.npy"\nb = load "a.npy"', check=True)
             self.assertEqual(bench.draw().line, 'b = load "a.npy"')
             bench.ask('c = load "a.npy"')
             self.assertRaisesRegex(BenchError, "the files of the session have more than", bench.draw)
