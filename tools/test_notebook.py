@@ -169,8 +169,8 @@ class Drawings(InFolder):
             bench.ask('c = load "a.npy"')
             self.assertRaisesRegex(BenchError, "the files of the session have more than", bench.draw)
         with Session() as bench:
-            bench.batch(["a = zeros <i4 ()"] * 10_001)
-            self.assertRaisesRegex(BenchError, "more than 10,000 lines", bench.draw)
+            bench.batch(["a = zeros <i4 ()"] * 4_001)
+            self.assertRaisesRegex(BenchError, "more than 4,000 lines", bench.draw)
         with Session(undo=60) as bench:
             bench.ask("a = zeros <i4 ()")
             self.assertRaisesRegex(BenchError, "56 changes, not 60", bench.draw)
