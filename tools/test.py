@@ -1,8 +1,9 @@
 #!/usr/bin/env python3
 """Runs the tests of everything but the proofs: tools/test.py [WORD ..] runs those whose names have one of the words, or all.
 
-It takes two minutes on four cores, and needs no toolchain. On a terminal a line says how far it is. Tests that need NumPy run with the
-first `python3` of PATH that has it; the output says which. Skipped tests are listed with the reason. The last line is `N passed, M failed, K skipped`. With --gate, `rt ci` runs first and proves everything from scratch, then dist/ is compared with the
+It takes some minutes, and needs no toolchain. On a terminal a line says how far it is. Tests that need NumPy run with the first
+`python3` of PATH that has it; the output says which. Skipped tests are listed with the reason. The last line is `N passed, M failed,
+K skipped`. With --gate, `rt ci` runs first and proves everything from scratch, then dist/ is compared with the
 program that it built, and no test may be skipped because there is no program."""
 import concurrent.futures
 import functools

@@ -7,9 +7,7 @@ import json
 import os
 import re
 import subprocess
-import tempfile
 import unittest
-from pathlib import Path
 from unittest import mock
 
 from trials import browsers
@@ -22,8 +20,18 @@ from test_draw import needs_node
 np = numpy_or_none()
 EXAMPLE = json.loads((TOP / "examples/notebook.ipynb").read_text())
 PYTHON = "/usr/bin/python3"  # Debian's, which has its packages
-HAS_JUPYTER = works(PYTHON, "-c", "import nbconvert, ipykernel, numpy")
+HAS_JUPYTER = works(PYTHON, "-c", "import nbconvert, ipykernel, jupyter_client, numpy")
 needs_jupyter = unittest.skipUnless(HAS_JUPYTER, "there is no nbconvert and no ipykernel")
+# Runs cells in a kernel, and prints what it puts into the next one.
+ASKS = """
+import json, sys
+from jupyter_client.manager import start_new_kernel
+manager, client = start_new_kernel(kernel_name="python3")
+replies = [client.execute_interactive(cell, output_hook=lambda _: None, timeout=600)["content"] for cell in json.loads(sys.argv[1])]
+client.stop_channels()
+manager.shutdown_kernel(now=True)
+print(json.dumps([[each["text"], each["replace"]] for reply in replies for each in reply["payload"]]))
+"""
 WORDS = re.compile('<desc id="words">(.*?)</desc>')
 
 
@@ -61,6 +69,7 @@ class Cells(InFolder):
                          "no E06 unknown name: print q\n    q is not bound\n    names: s head\n[0 5 0 0]\n")
         self.assertIn("E18 bad reshape", notebook.cell("%bench help reshape"))
         self.assertIn("--take or nothing", notebook.cell("%%bench --what\ns = zeros <i2 (1)"))
+        self.assertEqual(notebook.cell("%bench x = s[1]"), "ok x <i2 () view\n    a view of one item; in NumPy it is a copy (`copy x C`)\n")
         self.assertEqual(notebook.cell("%bench info s"), "info s <i2 (4,) strides (2,) at 0 order CF write yes\n")
 
     def test_offered_lines(self):
@@ -68,7 +77,7 @@ class Cells(InFolder):
         notebook = self.notebook()
         said = notebook.cell("%%bench\na = np.arange(4, dtype='i4')\na[:2] += 1\na")
         self.assertEqual(said, "no E03 syntax: a = np.arange(4, dtype='i4')\n    write: a = arange <i4 0 4 1\n"
-                               "    (the next cell has these, and the rest of this one; %bench --take runs the same)\n")
+                               "    (the next cell has them, and the rest of this one; %bench --take runs the same)\n")
         self.assertEqual(notebook.next, "%%bench\na = arange <i4 0 4 1\na[:2] += 1\na")
         self.assertEqual(notebook.cell("%bench --take"), "ok a <i4 (4,) new\nbench> upd a[:2] add 1\nok upd 2\n    seen by a only\n[1 2 2 3]\n")
         self.assertEqual((notebook.next, notebook.cell("%bench --take")), (None, ""))
@@ -155,13 +164,13 @@ class Drawings(InFolder):
         with Session() as bench:
             self.assertRaisesRegex(BenchError, "no line has changed anything", bench.draw)
             bench.files["a.npy"] = b"\x93NUMPY\x01\x00v\x00" + b"{'descr': '|u1', 'fortran_order': False, 'shape': (12000000,), }".ljust(117) + b"\n" + bytes(12_000_000)
-            bench.run(f'a = load "a.npy"\nb = load "a.npy"', check=True)
+            bench.run('a = load "a.npy"\nb = load "a.npy"', check=True)
             self.assertEqual(bench.draw().line, 'b = load "a.npy"')
             bench.ask('c = load "a.npy"')
             self.assertRaisesRegex(BenchError, "the files of the session have more than", bench.draw)
         with Session() as bench:
-            bench.batch(["a = zeros <i4 ()"] * 10_001)
-            self.assertRaisesRegex(BenchError, "more than 10,000 lines", bench.draw)
+            bench.batch(["a = zeros <i4 ()"] * 4_001)
+            self.assertRaisesRegex(BenchError, "more than 4,000 lines", bench.draw)
         with Session(undo=60) as bench:
             bench.ask("a = zeros <i4 ()")
             self.assertRaisesRegex(BenchError, "56 changes, not 60", bench.draw)
@@ -199,40 +208,45 @@ class Example(InFolder):
 @needs_program
 @needs_jupyter
 class InJupyter(InFolder):
-    def run_example(self, **more):
-        """The example as nbconvert leaves it when it has run it, as a notebook and as a page."""
-        env = {**os.environ, "PYTHONPATH": str(COMPANION), "HOME": str(self.folder), "JUPYTER_PLATFORM_DIRS": "1", **more}
-        for form in "notebook", "html":
-            words = [PYTHON, "-m", "nbconvert", "--execute", "--to", form, "--output-dir", self.folder, "--output", "made", TOP / "examples/notebook.ipynb"]
-            done = subprocess.run(words, capture_output=True, text=True, env=env, cwd=self.folder, timeout=PATIENT)
-            self.assertEqual(done.returncode, 0, done.stderr)
-        return json.loads((self.folder / "made.ipynb").read_text()), self.folder / "made.html"
+    def convert(self, form, *words, **more):
+        """What nbconvert makes of a notebook."""
+        env = {**os.environ, "PYTHONPATH": str(COMPANION), "HOME": str(self.folder), **more}
+        made = [PYTHON, "-m", "nbconvert", "--to", form, "--output-dir", self.folder, "--output", "made", *words]
+        done = subprocess.run(made, capture_output=True, text=True, env=env, cwd=self.folder, timeout=PATIENT)
+        self.assertEqual(done.returncode, 0, done.stderr)
+        return self.folder / f"made.{'ipynb' if form == 'notebook' else form}"
+
+    def seen(self, path, kind, ready):
+        """In a browser the four pictures are ready, and no error is reported but for the scripts of nbconvert's page that are not there."""
+        with browsers.Chromium() as browser:
+            tab = browser.open(path.as_uri())
+            tab.wait(f"document.readyState == 'complete' && (found => found.length == 4 && found.every({ready}))([...document.querySelectorAll('{kind}')])")
+            self.assertEqual([fault for fault in browser.faults if "ERR_FILE_NOT_FOUND" not in fault], [])
+
+    def test_the_next_cell(self):
+        """The kernel hands over the cell with the offered lines."""
+        env = {**os.environ, "PYTHONPATH": str(COMPANION), "HOME": str(self.folder)}
+        cells = ["%load_ext bench_tool", "%%bench\na = arange <i4 0 4 1\na[0] = 9\na", "%bench --take"]
+        done = subprocess.run([PYTHON, "-c", ASKS, json.dumps(cells)], capture_output=True, text=True, env=env, cwd=self.folder, timeout=PATIENT)
+        self.assertEqual(json.loads(done.stdout), [["%%bench\nset a[0] = 9\na", False]])
 
     @needs_node
     def test_it_runs(self):
-        """Its outputs are those that stand there."""
-        made, _ = self.run_example()
+        """Its outputs are those that stand there, and a browser shows the pictures."""
+        path = self.convert("notebook", "--execute", TOP / "examples/notebook.ipynb")
+        made = json.loads(path.read_text())
         for cell, kept in zip(made["cells"], EXAMPLE["cells"]):
             if cell["cell_type"] == "code":
                 self.assertEqual(printed(cell), printed(kept), source(cell))
         self.assertEqual(pictures(made["cells"]), pictures(EXAMPLE["cells"]))
-        self.assertEqual(len(pictures(made["cells"])), 4)
+        if browsers.CHROMIUM:
+            self.seen(self.convert("html", path), "img[src^=data]", "image => image.naturalWidth >= 720")
 
     @unittest.skipUnless(browsers.CHROMIUM, "chromium is not installed")
-    def test_it_is_seen(self):
-        """With Node as images, without it drawn by the browser, which fetches nothing and reports no error."""
-        without = Path(tempfile.mkdtemp(dir=self.folder))
-        for kind, more in ("img", {}), ("iframe", {"PATH": str(without)}):
-            _, path = self.run_example(**more)
-            with self.subTest(kind), browsers.Chromium() as browser:
-                tab = browser.open(path.as_uri())
-                tab.wait(f"document.readyState == 'complete' && document.querySelectorAll('{kind}[src^=data], {kind}[srcdoc]').length == 4")
-                if kind == "img":
-                    tab.wait("[...document.querySelectorAll('img[src^=data]')].every(image => image.naturalWidth >= 720)")
-                else:
-                    tab.wait("[...document.querySelectorAll('iframe')].every(frame => frame.contentDocument.querySelector('svg desc') && parseInt(frame.style.height) > 100)")
-                    self.assertEqual(tab.ask("document.querySelector('iframe').contentDocument.querySelector('desc').textContent"), "1 value in buffer 1 changes, seen by image and mirrored.")
-                self.assertEqual([fault for fault in browser.faults if "ERR_" not in fault], [])
+    def test_it_runs_without_node(self):
+        """The browser draws the pictures, which fetch nothing, and makes their frames as high as they are."""
+        path = self.convert("html", "--execute", TOP / "examples/notebook.ipynb", PATH=str(self.folder))
+        self.seen(path, "iframe[srcdoc]", "frame => frame.contentDocument.querySelector('svg desc') && parseInt(frame.style.height) > 100")
 
 
 if __name__ == "__main__":

@@ -11,7 +11,7 @@ from . import page
 from .session import BenchError
 
 LOADS = re.compile(r'=\s*load\s*"([\w.-]+)"')
-MOST_LINES = 10_000
+MOST_LINES = 4_000
 FRAME = '<iframe srcdoc="{}" title="{}" style="width:100%;height:24em;border:0"></iframe>'
 IMAGE = '<img src="data:image/svg+xml;base64,{}" alt="{}" style="max-width:100%">'
 

@@ -16,11 +16,12 @@ from typing import Callable, Iterable, Iterator, Optional, Sequence
 
 from . import language
 from .grammar import Part, Reading, reserved
+from .header import NO_KIND
 from .session import Array, BenchError, Reply, Session
 from .terminal import printable, say
 from .numpy_rules import TYPES
-from .seen import seen_by
-from .translate import FLOATS, translated
+from .seen import one_item, seen_by
+from .translate import translated
 from .trials import Trial, like
 
 SECONDS, MOST_SECONDS = 0.05, 3600  # for one hint: by default, and at most
@@ -99,6 +100,12 @@ class Hints(AbstractContextManager["Hints"]):
                 return seen_by(self.session, line)
             with self._trial(index) as trial:
                 return seen_by(self.session, line, trial)
+        return ""
+
+    def one_item(self, line: str) -> str:
+        """What differs from NumPy after an accepted line that binds a name to one item. It raises nothing."""
+        with suppress(Exception):
+            return one_item(self.session, line)
         return ""
 
     def _said(self, line: str, reply: Reply) -> list[str]:
@@ -252,7 +259,10 @@ class Numbers:
 
     def _e05(self) -> str:
         kind = self.text["D"]
-        return f"write {TYPES[kind]} instead of {kind}" if kind in TYPES else "there are no floats" * bool(FLOATS.match(kind))
+        if kind in TYPES:
+            return f"write {TYPES[kind]} instead of {kind}"
+        what = NO_KIND.get(kind.lstrip("<>|=")[:1], "")
+        return f"the type is not supported: there are no {what}" if what else ""
 
     def _e09(self) -> str:
         lengths = list(map(int, re.findall(r"\d+", self.text.get("S") or self.text["S-"])))

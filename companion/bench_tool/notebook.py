@@ -58,7 +58,7 @@ class Notebook:
                 self.put(words)
             else:
                 self.run(self.offered if takes else [line], takes)
-        except (BenchError, OSError, TypeError, ValueError) as fault:
+        except (BenchError, ImportError, OSError, TypeError, ValueError) as fault:
             print(f"    {printable(str(fault), 500)}")
 
     def is_array(self, word: str) -> bool:
@@ -77,9 +77,10 @@ class Notebook:
         changed, asked = False, ""
         while pending and not self.offered:
             line = self.command(pending.popleft())
-            print(f"bench> {line}\n" * bool(taken), end="")
-            taken = max(0, taken - 1)
+            is_taken, taken = bool(taken), max(0, taken - 1)
+            print(f"bench> {line}\n" * is_taken, end="")
             reply = self.answer(line, takes)
+            self.note([why for why in [self.hints.one_item(line)] if why and reply.accepted and not is_taken])
             changed = changed or bool(CHANGES.match(reply.text))
             asked = line if reply.accepted and SHOWS.match(line) else asked
             if not reply.accepted and takes:
@@ -93,8 +94,9 @@ class Notebook:
             self.show("" if changed else asked)
 
     def offer(self, is_more: bool) -> None:
-        """Puts the offered lines into the next cell, with those that came after them."""
-        print(f"    (the next cell has {'these, and the rest of this one' if is_more else 'this'}; %bench {TAKE} runs the same)")
+        """Puts the offered lines into the next cell, with those that come after them."""
+        what = "it" if len(self.offered) == 1 else "them"
+        print(f"    (the next cell has {what}{', and the rest of this one' * is_more}; %bench {TAKE} runs the same)")
         self.shell.set_next_input("\n".join(["%%bench", *self.offered]))
 
     def command(self, line: str) -> str:

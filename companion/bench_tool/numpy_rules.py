@@ -29,6 +29,8 @@ LINES = [
     {"when": r"(clear|cls|reset)(\(\))?", "say": "`del a` unbinds a name; `exit` ends the shell"},
     {"when": r"(import|from)\s.*", "say": f"there is no import: {ONE_COMMAND}, and nothing is imported"},
     {"when": r"(for|while|if|elif|else|with|try|class|def|assert|return|raise|lambda|global)\b.*", "say": f"there is no `$1`: {ONE_COMMAND}"},
+    {"when": r"(?:set\s+)?(\w+\s*\[[^\]]*\])\s*=\s*-?\d+(?:\s+-?\d+)+", "say": "several values are an array: `t = array <i4 (3) 1 2 3`, and then `set $1 = t`"},
+    {"when": r"[^\"']*\[[^\]]*\.\.\.[^\]]*\.\.\..*", "say": "an index has `...` once at most"},
     {"when": r"save\s+(\w+)\s+[\"']?\S*/\S*", "say": "a file name has no folder: --dir chooses the folder of all files"},
     {"when": r"(?:let|var|const|auto|int|int \*)\s+(\w+\s*=.*)", "as": "$1"},
     {"when": r"(\w+)\s*:=\s*(.+)", "as": "$1 = $2"},

@@ -59,9 +59,9 @@ WRITTEN = "process.stdout.write(drawn);"
 # A picture as a document of its own, which fetches nothing, and is as high in its frame as it has to be.
 DOCUMENT = """<!DOCTYPE html><meta charset="utf-8"><meta http-equiv="Content-Security-Policy"
 content="default-src 'none'; script-src 'unsafe-inline' 'wasm-unsafe-eval'; style-src 'unsafe-inline'">
-<style>:root{{color-scheme:light dark}}body{{margin:0}}</style><script type="module">{code}
+<style>body{{margin:0}}svg{{display:block;max-width:100%;height:auto}}</style><script type="module">{code}
 document.body.innerHTML = drawn;
-if (frameElement) frameElement.style.height = `${{document.body.scrollHeight + 20}}px`;
+if (frameElement) frameElement.style.height = `${{document.body.scrollHeight}}px`;
 </script>"""
 
 
