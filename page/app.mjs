@@ -302,10 +302,12 @@ async function take(list) {
 }
 
 /** Says something for some seconds, with a button for longer. */
-function note(text, ...buttons) {
-  const shown = made("span", text);
-  ui.note.replaceChildren(shown, ...buttons);
-  setTimeout(() => { if (shown.parentNode) ui.note.replaceChildren(); }, buttons.length ? 60_000 : 6000);
+function note(text, ...buttons) { noteFor(buttons.length ? 60 : 6, text, ...buttons); }
+
+function noteFor(seconds, text, ...buttons) {
+  const said = made("span", text);
+  ui.note.replaceChildren(said, ...buttons);
+  setTimeout(() => { if (said.parentNode) ui.note.replaceChildren(); }, 1000 * seconds);
 }
 
 async function copy(text, told, ...buttons) {
@@ -485,7 +487,7 @@ ui.numpy.addEventListener("click", () => run.ask("numpy").then(text => copy(text
 ui.svg.addEventListener("click", async () => { if (shown) save(`line-${shown.number}.svg`, await run.ask("svg", shown.line), "image/svg+xml"); });
 /** Shows the script of a link. It runs at once only if it cannot run long. */
 async function open({ text, line, fault }) {
-  if (fault) note(fault);
+  if (fault) noteFor(600, fault);
   if (text === undefined || text === ui.script.value) { if (line) goTo(line - 1); return; }
   replace(text);
   if (!mightRunLong(text)) { await start(false, line ? line - 1 : caretLine()); if (line) goTo(line - 1); return; }
@@ -519,7 +521,7 @@ async function begin() {
   measure();
   paint();
   run = window.bench = new Run(await WebAssembly.compile(await unpacked(at("program").textContent, "gzip")), given.undo ?? 16);
-  if (asked.fault) note(asked.fault);
+  if (asked.fault) noteFor(600, asked.fault);
   if (asked.text !== undefined && mightRunLong(asked.text)) { waits(); return; }
   await start(false, (asked.line || given.line || linesOf(ui.script.value).length) - 1);
   goTo(asked.line || given.line ? current : await run.ask("telling") ?? 0);

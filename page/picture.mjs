@@ -6,6 +6,7 @@ const SHORT = 160; // letters of a type
 const PLAIN = 12, STRIPES = ["", "left", "right", "left right"]; // names of a buffer without stripes in their cells; where the next ones have them
 const FEW_NAMES = 6, MOST_NAMES = 64, MOST_GRIDS = 4; // that are drawn of a buffer
 const MOST_LEAVES = 16; // values of an item in a grid
+const FEW_RECORDS = 4; // that are drawn to scale; of more each field has a row
 const MOST_BUFFERS = 12; // that a line leaves alone and that are drawn all the same
 
 export const cut = (text, most = LONGEST) => text.length <= most ? text : `${text.slice(0, most >> 1)}…${text.slice(1 - (most >> 1))}`;
@@ -26,6 +27,7 @@ class Drawn {
     const [old, fresh] = [moment.before.buffers.get(number), moment.after.buffers.get(number)], { kind, count } = fresh ?? old;
     Object.assign(this, { moment, number, hues, kind, count, size: kind.size, values: (fresh ?? old).values, focus: moment.focus.get(number) ?? [] });
     this.starts = (fresh ?? old).starts(this.focus);
+    this.isByField = kind.fields.length > 0 && this.starts.length > FEW_RECORDS;
     this.leaves = kind.leaves.slice(0, Math.max(1, Math.floor(1024 / Math.max(1, this.starts.length))));
     this.old = old && fresh && old !== fresh ? old.values : new Map();
     this.changed = new Set([...this.old.keys()].filter(at => this.values.has(at) && this.old.get(at) !== this.values.get(at)));
@@ -59,11 +61,11 @@ class Drawn {
   /** Where a byte is, in columns; undefined where it is not drawn. */
   column(byte) {
     const inside = byte % this.size, column = this.columns.get(Math.floor(byte - inside));
-    return column === undefined ? undefined : column + inside / this.size;
+    return column === undefined ? undefined : column + (this.isByField ? 0 : inside / this.size);
   }
 
-  /** A box for some bytes, to scale. */
-  box(text, byte, size, look = "") { return { text, look, byte, size, at: this.column(byte), width: size / this.size }; }
+  /** A box for some bytes, to scale; as wide as a column where each field has a row. */
+  box(text, byte, size, look = "") { return { text, look, byte, size, at: this.column(byte), width: this.isByField ? 1 : size / this.size }; }
 
   gapped(row) { return { ...row, boxes: [...this.gaps.map(at => ({ text: "…", look: "gap", at, width: 1 })), ...row.boxes].sort((left, right) => left.at - right.at) }; }
 
@@ -79,6 +81,20 @@ class Drawn {
       }
     }
     return this.gapped({ label, look, boxes });
+  }
+
+  /** A row for each field of the records, with the names that see it alone; and the other names. */
+  fieldRows() {
+    const alone = new Map(this.leaves.map(leaf => [leaf.at, []])), others = [];
+    for (const each of this.names) (each.bound.kind.leaves.length === 1 && this.kind.leaves.length > 1 && alone.get(each.bound.array.at % this.size) || others).push(each);
+    const rows = this.leaves.flatMap(({ at, size, field }) => {
+      const boxes = this.starts.map(start => {
+        const text = cut(literal(this.values.get(start + at))), isChanged = this.changed.has(start + at), was = isChanged ? cut(literal(this.old.get(start + at))) : undefined;
+        return { ...this.box(isChanged ? `${was}→${text}` : text, start + at, size, isChanged ? "x" : this.written.has(start + at) ? "w" : ""), was };
+      });
+      return [this.gapped({ label: `.${cut(field, 20)}`, look: "now", boxes }), ...alone.get(at).map(each => this.nameRow(each))];
+    });
+    return [...rows, ...others.map(each => this.nameRow(each))];
   }
 
   /** The cells that a name sees, each with the index by which the name reaches it. */
@@ -97,11 +113,14 @@ class Drawn {
   /** The cells of the buffer, and under them those of each name. */
   strip() {
     const rows = [this.gapped({ label: "byte", look: "place", boxes: this.starts.map(start => this.box(String(start), start, this.size)) })];
-    if (this.kind.fields.length) rows.push(this.row("field", "field", (_, field) => field));
-    if (this.changed.size) rows.push(this.row("before", "old", at => cut(literal(this.old.get(at)))));
-    rows.push(this.row("value", "now", at => cut(literal(this.values.get(at)))), ...this.names.map(each => this.nameRow(each)));
+    if (this.isByField) rows.push(...this.fieldRows());
+    else {
+      if (this.kind.fields.length) rows.push(this.row("field", "field", (_, field) => field));
+      if (this.changed.size) rows.push(this.row("before", "old", at => cut(literal(this.old.get(at)))));
+      rows.push(this.row("value", "now", at => cut(literal(this.values.get(at)))), ...this.names.map(each => this.nameRow(each)));
+    }
     const half = new Map(this.leaves.map(leaf => [leaf.at, leaf.size / 2])), middle = byte => this.column(byte + (half.get(byte % this.size) ?? 0));
-    const pairs = this.state === "changes" ? [...this.moment.moved].filter(([, { buffer }]) => buffer === this.number && this.written.size) : [];
+    const pairs = this.state === "changes" && !this.isByField ? [...this.moment.moved].filter(([, { buffer }]) => buffer === this.number && this.written.size) : [];
     const moves = pairs.map(([at, { byte }]) => [middle(byte), middle(at)]).filter(pair => pair.every(place => place !== undefined));
     const hidden = this.count - this.starts.length, values = this.kind.leaves.length - this.leaves.length;
     const caption = [`Buffer ${this.number}${this.state && ` ${this.state}`}: ${counted(this.count, "item")} of ${cut(this.kind.text, SHORT)}, ${counted(this.count * this.size, "byte")}`,

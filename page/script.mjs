@@ -127,10 +127,10 @@ export class Script {
   /** The cells of the line's buffers in words, for a screen reader: of each buffer a caption and rows of texts. */
   cells(moment, tables) {
     return tables.filter(({ rows }) => rows[0].label === "byte").map(({ buffer: number, rows, caption }) => {
-      const [now, old] = ["now", "old"].map(look => rows.find(row => row.look === look)?.boxes ?? []);
+      const [now, old] = ["now", "old"].map(look => rows.filter(row => row.look === look).flatMap(({ boxes }) => boxes));
       const made = now.filter(({ byte, look }) => byte !== undefined && look !== "pad").slice(0, MOST_CELLS_TOLD).map(box => {
         const from = moment.written.has(number) ? moment.moved.get(box.byte) : undefined, before = old.find(each => each.byte === box.byte && each.look === "x");
-        return [number, box.byte, box.text, before?.text ?? "", from ? `byte ${from.byte} of buffer ${from.buffer}` : "", seenAt(moment, number, box.byte).map(({ operand }) => operand).join(", ")];
+        return [number, box.byte, box.text.split("→").at(-1), box.was ?? before?.text ?? "", from ? `byte ${from.byte} of buffer ${from.buffer}` : "", seenAt(moment, number, box.byte).map(({ operand }) => operand).join(", ")];
       });
       return { caption, rows: made };
     });

@@ -230,12 +230,12 @@ class InBrowser:
         page = self.typed(self.page(), TYPED)
         self.assertEqual(page.ask("script.value"), TYPED)
         beside = page.ask(BESIDE)
-        self.assertRegex(beside.pop(4), r"^E11 index out of range: .*; b is <i4 \(5,\)$")
+        self.assertRegex(beside.pop(4), r"^E11 index out of range: axis 0 of b has length 5: 9 is outside, -5 to 4 are within$")
         self.assertEqual(beside, ["ok a <i4 (5,) new", "ok b <i4 (5,) view", "ok set 4", "[1 2 3 4 4]", "E03 syntax: expected `,` or `)`"])
         self.assertEqual(page.ask("[line.textContent, reply.textContent, hint.textContent]"), ["Line 6: d = reshape a (2,3", "no E03 syntax", "Expected `,` or `)`"])
         page.key("ArrowUp")
         page.wait("line.textContent.startsWith('Line 5')")
-        self.assertRegex(page.ask("hint.textContent"), r"is outside|b is <i4 \(5,\)")
+        self.assertRegex(page.ask("hint.textContent"), r"^Axis 0 of b has length 5: 9 is outside")
         page.key("ArrowUp"), page.key("ArrowUp")
         page.wait("line.textContent.startsWith('Line 3')")
         self.assertEqual(page.ask(VALUES), [["1", "2", "3", "4", "4"]])
@@ -399,7 +399,8 @@ class InBrowser:
     def test_many_lines(self):
         """A changed line of 10,000 is answered by itself and what follows it, without running the others again, and without writing them again."""
         page = self.page()
-        page.ask(f"script.value = {json.dumps(chr(10).join(['a = arange <i4 0 100 1', *(f'set a[{k % 100}] = {k}' for k in range(9998))]))}, script.dispatchEvent(new Event('input'))")
+        lines = ["a = arange <i4 0 100 1", *(f"set a[{k % 100}] = {k}" if k % 25 == 0 else f"# {k}" for k in range(9998))]
+        page.ask(f"script.value = {json.dumps(chr(10).join(lines))}, script.dispatchEvent(new Event('input'))")
         page.wait(f"bench.count === 9999 && ({RAN})")
         page.ask("window.ran = [], (heard => { bench.heard = function (data) { if (typeof data === 'number') window.ran.push(data); return heard.call(this, data); }; })(bench.heard)")
         page.ask("window.changes = 0, new MutationObserver(list => { window.changes += list.length; }).observe(shown, { childList: true, subtree: true, characterData: true })")
@@ -408,20 +409,20 @@ class InBrowser:
         self.assertEqual(page.ask("window.ran"), [9999])
         self.assertLess(page.ask("window.changes"), 200)
         at = "script.value.indexOf('set a[50] = 9950')"
-        page.ask(f"window.ran = [], script.setRangeText('1', {at} + 7, {at} + 7, 'end'), script.dispatchEvent(new Event('input'))")
-        page.wait(f"bench.lines[9951].startsWith('set a[510]') && ({RAN})")
+        page.ask(f"window.ran = [], script.setRangeText('1', {at} + 6, {at} + 7, 'end'), script.dispatchEvent(new Event('input'))")
+        page.wait(f"bench.lines[9951] === 'set a[10] = 9950' && ({RAN})")
         self.assertLessEqual(page.ask("window.ran.length"), 1100)  # from the last memory that is kept
         self.assertEqual(page.ask("document.querySelectorAll('#shown .l').length < 200"), True)
 
     def test_a_hundred_thousand_lines(self):
         """Their number of runs is theirs, the lines in sight alone are in the page, and one at the end is answered by itself."""
         page = self.page()
-        page.ask("script.value = ['a = arange <i4 0 9 1', ...Array.from({ length: 99999 }, (_, k) => `set a[${k % 9}] = ${k}`)].join('\\n'), script.dispatchEvent(new Event('input'))")
+        page.ask("script.value = ['a = arange <i4 0 9 1', ...Array.from({ length: 99999 }, (_, k) => k % 100 ? `# ${k}` : `set a[${k % 9}] = ${k}`)].join('\\n'), script.dispatchEvent(new Event('input'))")
         page.ask("window.ran = 0, (heard => { bench.heard = function (data) { window.ran += typeof data === 'number'; return heard.call(this, data); }; })(bench.heard)")
         page.wait("bench.count === 100000 && !bench.isRunning")
         self.assertLessEqual(page.ask("window.ran"), 100_000)
         page.ask("window.ran = 0, script.setRangeText('\\nprint a', script.value.length, script.value.length, 'end'), script.dispatchEvent(new Event('input'))")
-        page.wait("reply.textContent.startsWith('[99990 ')")
+        page.wait("reply.textContent.startsWith('[99900 ')")
         self.assertEqual(page.ask("window.ran"), 1)
         self.assertLess(page.ask("document.querySelectorAll('#shown .l').length"), 200)
 
@@ -430,7 +431,7 @@ class InBrowser:
         with tempfile.TemporaryDirectory() as folder:
             page = self.typed(self.page(folder=folder), TYPED + " # </script>")
             page.ask("(() => { const held = new DataTransfer(); held.items.add(new File([new Uint8Array([1, 200])], 'x.npy')); dispatchEvent(new DragEvent('drop', { dataTransfer: held })); })()")
-            page.wait("document.querySelector('#files button')")
+            page.wait("document.querySelectorAll('#files button').length")
             page.ask("navigator.clipboard.writeText = async text => { window.copied = text; }")
             page.ask("link.click()")
             page.wait("window.copied && note.textContent.includes('on this computer only')")
