@@ -48,7 +48,7 @@ export class Script {
     const { trace, moments: { length: count }, calls: { memory } } = this;
     if (memory.buffer.byteLength > MOST_KEPT || this.kept.at(-1)?.count === count) return;
     const rooms = [trace.bench, trace.second].map(({ buffer, room }) => ({ buffer, room })), { state, kept, focus, made, isBlind } = trace;
-    this.kept.push({ memory: new Uint8Array(memory.buffer).slice(), rooms, count, held: { state, kept: [...kept], focus, made, isBlind, lines: count } });
+    this.kept.push({ memory: new Uint8Array(memory.buffer).slice(), rooms, count, hues: this.hues.size, held: { state, kept: [...kept], focus, made, isBlind, lines: count } });
     while (this.kept.reduce((sum, each) => sum + each.memory.length, 0) > MOST_KEPT) {
       const spans = this.kept.slice(0, -1).map((_, k) => this.kept[k + 1].count - (this.kept[k - 1]?.count ?? 0));
       this.kept.splice(spans.indexOf(Math.min(...spans)), 1);
@@ -64,6 +64,7 @@ export class Script {
     for (const [k, bench] of [trace.bench, trace.second].entries()) Object.assign(bench, last.rooms[k]);
     Object.assign(trace, last.held, { kept: [...last.held.kept] });
     this.moments.length = last.count;
+    for (const key of [...this.hues.keys()].slice(last.hues)) this.hues.delete(key);
     this.saved = this.saved.filter(({ line: of }) => of < last.count);
   }
 

@@ -378,6 +378,13 @@ class InBrowser:
             page.wait(f"hint.textContent.toLowerCase().startsWith({json.dumps(hint.lower())})")
         self.assertEqual(self.browser.faults, [])
 
+    def test_colours_of_another_script(self):
+        """Names have different colours, whatever they were called in the script before."""
+        page = self.typed(self.page(), "m = arange <i4 0 6 1\nt = m[1:]")
+        self.typed(page, "a = arange <i4 0 6 1\nm = a[1:]\nt = a[2:]")
+        page.wait("document.body.dataset.drawn === '3' && document.querySelectorAll('#pictures g.name').length === 3")
+        self.assertEqual(len(set(page.ask("[...document.querySelectorAll('#pictures g.name')].map(row => getComputedStyle(row.querySelector('rect')).fill)"))), 3)
+
     def test_a_long_line_is_stopped(self):
         """A line that runs long is named, and a button stops it: the lines before it are there again, and it waits."""
         long = "\n".join(["a = arange <i4 0 3 1", "s = full |S60000 (4000) b'x'", *["y = eq s s"] * 400, "print a"])
