@@ -431,7 +431,8 @@ function write(text) {
 
 const save = (name, text, type) => made("a", "", { download: name, href: URL.createObjectURL(new Blob([text], { type })) }).click();
 const went = line => { if (line !== current && line < Math.max(run.count, hold ? hold.at + 1 : 0)) show(line); };
-ui.script.addEventListener("input", () => { if (!isWriting) start(); });
+let planned = 0; // a paste may come as many events, and is one run
+ui.script.addEventListener("input", () => { clearTimeout(planned); if (!isWriting) planned = setTimeout(start); });
 ui.keep.addEventListener("click", () => save("script.bench", ui.script.value, "text/plain"));
 document.addEventListener("selectionchange", () => { if (document.activeElement === ui.script && run) { went(caretLine()); offer(); } });
 ui.script.addEventListener("keydown", event => {

@@ -7,7 +7,7 @@ import { Hints } from "./hints.mjs";
 import { Language } from "./language.mjs";
 import { inNumPy } from "./numpy.mjs";
 
-const SLICE = 25, EVERY = 1000; // milliseconds of work in one go; lines after which the memory is kept once more
+const SLICE = 25, EVERY = 1000, SOON = 200; // milliseconds of work in one go; lines, and milliseconds of work, after which the memory is kept once more
 const MOST_KEPT = 64 << 20; // bytes of memory that are kept to go back to, and of the bench in which hints are tried
 const MOST_CELLS_TOLD = 200; // of a buffer, in words
 
@@ -46,6 +46,7 @@ export class Script {
   /** Keeps the memory as it is before the next line. Of all that is kept, the one that its neighbours replace best makes room. */
   keep() {
     const { trace, moments: { length: count }, calls: { memory } } = this;
+    this.keptAt = performance.now();
     if (memory.buffer.byteLength > MOST_KEPT || this.kept.at(-1)?.count === count) return;
     const rooms = [trace.bench, trace.second].map(({ buffer, room }) => ({ buffer, room })), { state, kept, focus, made, isBlind } = trace;
     this.kept.push({ memory: new Uint8Array(memory.buffer).slice(), rooms, count, hues: this.hues.size, held: { state, kept: [...kept], focus, made, isBlind, lines: count } });
@@ -88,7 +89,7 @@ export class Script {
 
   step(same) {
     const { length: count } = this.moments;
-    if (count === same || count % EVERY === 0 && count) this.keep();
+    if (count === same || count && (count % EVERY === 0 || performance.now() - this.keptAt > SOON)) this.keep();
     this.tell(count);
     try {
       const moment = this.trace.step(this.lines[count]);

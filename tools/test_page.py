@@ -24,6 +24,7 @@ from bench_tool.session import items_of
 from test_rows import rows, zeros
 
 sys.path.insert(0, str(TOP / "page"))
+import build  # noqa: E402
 import retarget  # noqa: E402
 
 DIST, TRIALS = TOP / "dist", TOP / "tools/trials"
@@ -156,6 +157,39 @@ console.log(JSON.stringify(told));
         self.assertEqual(rest[:7], ["E06", "ok save 152", ["x.npy", "y.npy"], False, True, "ok c <i4 (6,) new rest 0", "no E01 line too long"])
         self.assertEqual(rest[7:9], [300 * 602 + 300, "no E02 byte not allowed"])
         self.assertEqual(rest[9:], ["Error: the bench is closed", *["RangeError: undo is a number from 0 to 64"] * 2, True])
+
+    def test_a_script(self):
+        """What the page asks of its worker: a script runs from the changed line on; where the second bench has no room, replies go on without
+        pictures; a stack that overflows is told of, and the next change begins anew; a file without room is E40, and the script goes on."""
+        code = """
+import { readFileSync } from "node:fs";
+import { Script } from "%s/page/script.mjs";
+const program = await WebAssembly.compile(readFileSync(new URL("%s/dist/bench.wasm"))), ran = [], script = new Script(program, JSON.parse(readFileSync(0, "utf8")), 16, line => ran.push(line)), told = [];
+const seen = (line, ...more) => { const { reply, words, pictures } = script.view(line, 600, false, ...more); return [reply.text, words, pictures.length > 0]; };
+await script.run(0, ["a = arange <i4 0 3 1", "b = a[1:]", "set b[0] = 7", "print a"]);
+told.push(seen(3), script.view(2, 600, false, true).cells[0].rows[1], script.light(2, 1, 4), script.telling(), ran.splice(0));
+await script.run(2, ["set b[1] = 4", "print a"]);
+ran.splice(0);
+await script.run(2, ["set b[1] = 5", "print a"]);
+told.push(seen(3), ran.splice(0), (await script.run(4, ["names"], 4)).count, ran.splice(0));
+script.trace.second.answer = () => ({ accepted: false, code: "E40", meaning: "out of memory", text: "no E40 out of memory" });
+await script.run(4, ["set a[0] = 9", "print a"]);
+told.push(seen(4), seen(5).slice(0, 2));
+script.trace.step = () => { throw new WebAssembly.RuntimeError("unreachable"); };
+told.push((await script.run(6, ["names"])).fault, (await script.run(6, ["print b"])).fault, seen(6)[0]);
+script.trace.second.files.set = () => { throw new Error("out of memory"); };
+await script.run(7, ['save a "a.npy"', "print a"]);
+told.push(seen(7).slice(0, 2), seen(8)[0], script.file("a.npy").length);
+console.log(JSON.stringify(told));
+"""
+        done = subprocess.run(["node", "--input-type=module", "-e", code % (TOP.as_uri(), TOP.as_uri())], input=build.tables(), capture_output=True, text=True)
+        self.assertEqual(done.stderr, "")
+        blind = "There is no room left to draw the memory of this line."
+        self.assertEqual(json.loads(done.stdout), [
+            ["[0 7 2]", "Nothing changes.", True], [1, 4, "7", "1", "", "a[1], b[0]"], "Byte 4 of buffer 1 (07 00 00 00), before 1: a[1] is 7, b[0] is 7", 2, [0, 1, 2, 3],
+            ["[0 1 5]", "Nothing changes.", True], [2, 3], 4, [], ["ok set 1", blind, True], ["[9 1 5]", blind],
+            "The program stopped in line 7 (its stack overflowed). It starts again with the next change of the script.", "", "[1 5]",
+            ["ok save 140", blind], "[9 1 5]", 140])
 
     def test_heap(self):
         """A million random calls: nothing overlaps, and all is aligned."""
@@ -378,6 +412,14 @@ class InBrowser:
             page.wait(f"hint.textContent.toLowerCase().startsWith({json.dumps(hint.lower())})")
         self.assertEqual(self.browser.faults, [])
 
+    def test_without_a_worker(self):
+        """Where a browser makes no worker, the script runs in the page."""
+        with tempfile.TemporaryDirectory() as folder:
+            path = pathlib.Path(folder, "bench.html")
+            path.write_text(PAGE.read_text(encoding="utf-8").replace("worker-src blob:", "worker-src 'none'"), encoding="utf-8")
+            page = self.typed(self.page(path.as_uri()), "a = arange <i4 0 3 1\nprint a")
+            self.assertEqual(page.ask("[reply.textContent, bench.worker]"), ["[0 1 2]", None])
+
     def test_colours_of_another_script(self):
         """Names have different colours, whatever they were called in the script before."""
         page = self.typed(self.page(), "m = arange <i4 0 6 1\nt = m[1:]")
@@ -419,7 +461,10 @@ class InBrowser:
         page.ask(f"window.ran = [], script.setRangeText('1', {at} + 6, {at} + 7, 'end'), script.dispatchEvent(new Event('input'))")
         page.wait(f"bench.lines[9951] === 'set a[10] = 9950' && ({RAN})")
         self.assertLessEqual(page.ask("window.ran.length"), 1100)  # from the last memory that is kept
-        self.assertEqual(page.ask("document.querySelectorAll('#shown .l').length < 200"), True)
+        self.assertLess(page.ask("document.querySelectorAll('#shown .l').length"), 200)
+        page.ask("window.runs = 0, (run => { bench.run = function (...given) { window.runs += 1; return run.apply(this, given); }; })(bench.run)")
+        self.typed(page, "\n".join(lines[:1000]))
+        self.assertEqual(page.ask("window.runs"), 1)  # a paste
 
     def test_a_hundred_thousand_lines(self):
         """Their number of runs is theirs, the lines in sight alone are in the page, and one at the end is answered by itself."""
