@@ -412,6 +412,19 @@ class InBrowser:
             page.wait(f"hint.textContent.toLowerCase().startsWith({json.dumps(hint.lower())})")
         self.assertEqual(self.browser.faults, [])
 
+    def test_records_and_a_narrow_page(self):
+        """Forty records fit a screen; at 390 pixels every button is in reach, and a printed row is one line."""
+        records = " ".join(f"({1_700_000_000 + k},{k * 37 % 700 - 300},{k * 11 % 256})" for k in range(40))
+        script = "\n".join([f"s = array T{{<I:t:<h:temp:B:flags:}} (40) {records}", "head = s[:16]", 'temp = field s "temp"', "set temp[3] = 5"])
+        page = self.typed(self.page(), script)
+        page.wait("document.body.dataset.drawn === '4'")
+        self.assertLess(page.ask("pictures.getBoundingClientRect().bottom"), 900)
+        self.assertEqual(page.ask("[...document.querySelectorAll('#pictures .x + text')].map(text => text.textContent)"), ["-189→5", "[3]", "[3]", "[3]"])
+        page = self.typed(self.page(width=390, height=844), "m = arange <i8 1000000 1000060 1\nm = reshape m (3,20)\nprint m")
+        page.wait("reply.textContent.startsWith('[[1000000')")
+        self.assertEqual(page.ask("[...document.querySelectorAll('#bar button, #bar select')].filter(each => { const { left, right, width } = each.getBoundingClientRect(); return left < 0 || right > 390 || !width; }).length"), 0)
+        self.assertAlmostEqual(page.ask("reply.scrollHeight / parseFloat(getComputedStyle(reply).lineHeight)"), 3, 0)
+
     def test_without_a_worker(self):
         """Where a browser makes no worker, the script runs in the page."""
         with tempfile.TemporaryDirectory() as folder:
