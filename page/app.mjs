@@ -1,15 +1,15 @@
 // ---- the page
-import { Bench, load } from "./bench.mjs";
-import { Trace, freeName, range } from "./trace.mjs";
-import { bytesIn, cut, huesOf, said, seenAt, tablesOf } from "./picture.mjs";
-import { STYLE, escape, figure, picture } from "./svg.mjs";
+import { range } from "./trace.mjs";
+import { cut } from "./picture.mjs";
+import { STYLE, escape } from "./svg.mjs";
 import { Language } from "./language.mjs";
-import { inNumPy } from "./numpy.mjs";
+import { Script } from "./script.mjs";
 
-const MOST_LINK = 8192, MOST_SCRIPT = 1 << 20, MOST_LINES = 200, MOST_ITEMS = 100_000, MOST_TYPED = 1 << 16, SLICE = 12, MOST_KEPT = 64 << 20; // bytes of a link, and of the script in it; lines and items of a script of a link that runs at once; letters that are put in as if typed; milliseconds of work in one go; bytes of memory that are kept to go back to
+const MOST_LINK = 8192, MOST_SCRIPT = 1 << 20, MOST_LINES = 200, MOST_ITEMS = 100_000, MOST_TYPED = 1 << 16, MOST_FILES = 32 << 20; // bytes of a link, and of the script in it; lines and items of a script of a link that runs at once; letters that are put in as if typed; bytes of files that go into a page
+const WAIT = 400, HEIGHT = 20, SPARE = 20; // milliseconds after which a line is said to run; pixels of a line of the script; lines that are written above and below those in sight
 const at = id => document.getElementById(id), json = id => JSON.parse(at(id).textContent || "null") ?? {};
-const ui = Object.fromEntries([..."script shown examples open chosen keep link numpy svg note offers files back slider on line reply hint words pictures lit all cells more editor".split(" ")].map(id => [id, at(id)]));
-const language = new Language(json("tables")), given = json("given"), files = new Map();
+const ui = Object.fromEntries([..."script shown examples open chosen keep page link numpy svg note offers files busy stop back slider on line reply hint take words pictures lit all cells more editor".split(" ")].map(id => [id, at(id)]));
+const language = new Language(json("tables")), given = json("given"), files = new Map(), source = `<!DOCTYPE html>\n${document.documentElement.outerHTML}\n`; // the page as it came
 const bytesOf64 = text => Uint8Array.fromBase64?.(text) ?? Uint8Array.from(atob(text), letter => letter.charCodeAt(0));
 
 /** The bytes of a packed text. It throws if the text is cut, or if there are more bytes than `most`. */
@@ -36,71 +36,82 @@ function dress(count) {
 }
 const linesOf = text => text.replace(/\n$/, "").split("\n");
 
-/** The script as far as it was run. What was changed is run again from the line before it, if the memory of then was kept. */
+/** The script in its worker. It gets the lines that have changed, and is asked for what is shown. A line that runs too long ends with the worker. */
 class Run {
-  constructor(module, undo) { Object.assign(this, { module, undo, lines: [], moments: [], hues: new Map(), kept: null, trace: null, fault: "" }); }
-
-  async restart(text) {
-    const calls = await load(this.module);
-    this.trace = new Trace(undo => this.opened(calls, undo), { undo: this.undo, text });
-    Object.assign(this, { calls, moments: [], lines: [], kept: null, fault: "", hues: new Map() });
+  constructor(module, undo) {
+    Object.assign(this, { module, undo, calls: new Map(), number: 0, lines: [], count: 0, version: 0, fault: "", saved: [], isNew: false });
+    this.code = new Blob([document.querySelector("script[type=module]").textContent.split("// ---- the page")[0].replaceAll("import.meta.url", "''"), "\nserve();"], { type: "text/javascript" });
+    this.open();
   }
 
-  opened(calls, undo) {
-    const bench = new Bench(calls, undo);
-    for (const [name, bytes] of files) bench.files.set(name, bytes);
-    return bench;
+  /** Starts a worker; where a browser has none, the script runs in the page itself. */
+  open() {
+    const begin = [this.module, json("tables"), this.undo];
+    try {
+      this.worker = new Worker(URL.createObjectURL(this.code));
+      this.worker.onmessage = ({ data }) => this.heard(data);
+      this.worker.onerror = () => this.lost(begin);
+      this.ask("open", ...begin);
+    } catch { this.lost(begin); }
+    if (files.size) this.ask("setFiles", [...files]);
+    Object.assign(this, { lines: [], count: 0, saved: [], fault: "", at: 0, since: performance.now() });
   }
 
-  keep() {
-    const { memory } = this.calls, { trace } = this;
-    if (memory.buffer.byteLength > MOST_KEPT) return;
-    const rooms = [trace.bench, trace.second].map(({ buffer, room }) => ({ buffer, room }));
-    this.kept = { memory: new Uint8Array(memory.buffer).slice(), rooms, count: this.moments.length, state: trace.state, back: [...trace.kept], focus: trace.focus, made: trace.made };
+  /** There is no worker: what was asked is answered in the page. */
+  lost(begin) {
+    this.worker = null;
+    this.inside = new Script(...begin, line => this.heard(line));
+    for (const [, { asked, done }] of this.calls) if (asked[0] !== "open") Promise.resolve(this.inside[asked[0]](...asked.slice(1))).then(done);
+    this.calls.clear();
   }
 
-  back() {
-    const { memory, rooms, count, state, back, focus, made: buffers } = this.kept, { trace } = this;
-    new Uint8Array(this.calls.memory.buffer).set(memory);
-    Object.assign(trace.bench, rooms[0]), Object.assign(trace.second, rooms[1]);
-    Object.assign(trace, { state, kept: [...back], focus, made: buffers, lines: count, isBlind: false });
-    this.moments.length = count;
+  heard(data) {
+    if (typeof data === "number") { Object.assign(this, { at: data, count: Math.max(this.count, data), since: performance.now() }); return; }
+    const [id, result, fault] = data, { done } = this.calls.get(id) ?? {};
+    this.calls.delete(id);
+    if (fault) this.fault = fault;
+    done?.(result);
   }
 
-  /** Runs a text. `seen` is called after each slice of the work, and says whether to go on. */
-  async run(text, seen) {
-    const lines = linesOf(text);
+  /** The result of a method of `Script`; null where the worker ended before. */
+  ask(...asked) {
+    if (this.inside) return Promise.resolve(this.inside[asked[0]](...asked.slice(1)));
+    this.number += 1;
+    this.worker.postMessage([this.number, ...asked]);
+    return new Promise(done => this.calls.set(this.number, { asked, done }));
+  }
+
+  /** Ends the worker in the middle of a line, and starts another. */
+  stop() {
+    this.worker.terminate();
+    for (const { done } of this.calls.values()) done(null);
+    this.calls.clear();
+    this.open();
+  }
+
+  /** Runs a script up to `hold`, and lets the line that is wanted be seen before others run: true when it has run, false if another one took its place. */
+  async run(lines, hold, wanted) {
+    const had = this.lines;
     let same = 0;
-    while (same < Math.min(lines.length, this.moments.length) && lines[same] === this.lines[same]) same++;
-    if (this.fault || !this.trace || !(this.kept?.count <= same || same >= this.moments.length)) await this.restart(text);
-    else if (same < this.moments.length) this.back();
-    this.trace.free = freeName(text);
-    this.lines = lines;
-    let until = performance.now() + SLICE;
-    while (this.moments.length < lines.length && !this.fault) {
-      if (this.moments.length === same && same !== this.kept?.count) this.keep();
-      try {
-        this.moments.push(this.trace.step(lines[this.moments.length]));
-        huesOf(this.moments.slice(-1), this.hues);
-      } catch (fault) {
-        this.fault = `The program stopped in line ${this.moments.length + 1}${fault instanceof WebAssembly.RuntimeError ? " (its stack overflowed)" : `: ${fault.message}`}. It starts again with the next change of the script.`;
-      }
-      if (performance.now() < until) continue;
-      if (!seen()) return false;
-      await new Promise(done => setTimeout(done));
-      if (!seen()) return false;
-      until = performance.now() + SLICE;
-    }
+    while (same < Math.min(lines.length, had.length) && lines[same] === had[same]) same++;
+    const now = performance.now();
+    if (this.isRunning && same <= this.at && now - this.since > WAIT && this.worker) { this.stop(); same = 0; }
+    if (this.isNew) this.ask("setFiles", [...files]);
+    const count = this.isNew ? 0 : Math.min(same, this.count);
+    Object.assign(this, { lines, isNew: false, isRunning: true, begun: now, since: now, at: count, count, version: this.version + 1 });
+    const ran = await this.ask("run", same, lines.slice(same), hold, wanted);
+    if (!ran || this.lines !== lines) return false;
+    Object.assign(this, ran, { isRunning: false, version: this.version + 1 });
     return true;
   }
 }
 
-let isWriting = false, isHeld = false, run, current = 0, drawn = null, generation = 0, cursor = null;
+let isWriting = false, hold = null, run, current = 0, shown = null, isAsked = 0, generation = 0, cursor = null;
 
 // ---- the script
 
 /** The line that the caret is in. */
-const caretLine = () => ui.script.value.slice(0, ui.script.selectionStart).split("\n").length - 1;
+const caretLine = () => { const { value, selectionStart } = ui.script; let line = 0; for (let k = value.indexOf("\n"); k >= 0 && k < selectionStart; k = value.indexOf("\n", k + 1)) line++; return line; };
 
 /** Moves the caret to the end of a line. */
 function moveTo(line) {
@@ -108,35 +119,67 @@ function moveTo(line) {
   ui.script.setSelectionRange(begin + (lines[line]?.length ?? 0), begin + (lines[line]?.length ?? 0));
 }
 
-function coloured(line, moment) {
-  const hint = moment && !moment.reply.accepted ? language.hint(moment) : null, html = [];
+function coloured(line, row) {
+  const html = [];
   let place = 0;
   for (const [text, look] of language.parts(line)) {
-    const bound = look === "bound" && moment && (moment.after.names.get(text) ?? moment.before.names.get(text)), hue = bound ? ` h${run.hues.get(`${text} ${bound.buffer}`)}` : "";
-    const isStop = hint?.at !== undefined && place <= hint.at && hint.at < place + text.length;
+    const hue = look === "bound" && row?.hues[text] !== undefined ? ` h${row.hues[text]}` : "", isStop = row?.at !== undefined && place <= row.at && row.at < place + text.length;
     html.push(look || isStop ? `<span class="${look}${hue}${isStop ? " stop" : ""}">${escape(text)}</span>` : escape(text));
     place += text.length;
   }
-  if (!moment?.reply.text) return html.join("");
-  const { reply } = moment, told = reply.accepted ? reply.text : [`${reply.code} ${reply.meaning}`, hint?.text].filter(Boolean).join(": ");
-  return `${html.join("")}<span class="r">${escape(cut(told.replace(/\s*\n\s*/g, " "), 160))}</span>`;
+  return row?.told ? `${html.join("")}<span class="r">${escape(row.told)}</span>` : html.join("");
 }
 
-/** Writes the lines in colours, each with its reply. A line is written again only if its text, its moment or its colours have changed. */
+/** The lines in sight, as they are typed, and what was said of them when they were last asked for. */
+const view = { lines: [], first: 0, rows: [], of: -1, nodes: new Map() };
+
+/** Writes the lines that are in sight in colours, each with its reply. One is written again only if its text, its reply or its colours have changed. */
 function paint() {
-  const lines = ui.script.value.split("\n"), shown = [...ui.shown.children];
-  for (const spare of shown.splice(lines.length)) spare.remove();
-  if (shown.length < lines.length) ui.shown.append(...range(shown.length, lines.length).map(k => (shown[k] = made("div", ""))));
-  for (const [k, line] of lines.entries()) {
-    const row = shown[k], moment = run?.lines[k] === line ? run.moments[k] : undefined;
-    if (row.text !== line || row.moment !== moment) [row.text, row.moment, row.innerHTML] = [line, moment, coloured(line, moment) || "\u200b"];
-    const look = `l${moment && !moment.reply.accepted ? " no" : ""}${k === current ? " here" : ""}`;
+  const { lines } = view, first = Math.max(0, Math.floor(ui.editor.scrollTop / HEIGHT) - SPARE), last = Math.min(lines.length, Math.ceil((ui.editor.scrollTop + ui.editor.clientHeight) / HEIGHT) + SPARE);
+  for (const [k, row] of view.nodes) if (k < first || k >= last) { row.remove(); view.nodes.delete(k); }
+  for (let k = first; k < last; k++) {
+    const known = view.rows[k - view.first], told = known?.line === lines[k] ? known : undefined, look = `l${told && !told.accepted ? " no" : ""}${k === current ? " here" : ""}`;
+    let row = view.nodes.get(k);
+    if (!row) {
+      view.nodes.set(k, row = made("div", ""));
+      row.style.top = `${k * HEIGHT}px`;
+      row.dataset.line = k + 1;
+      ui.shown.insertBefore(row, view.nodes.get(k + 1) ?? null);
+    }
+    if (row.text !== lines[k] || row.told !== told?.key) [row.text, row.told, row.innerHTML] = [lines[k], told?.key, coloured(lines[k], told) || "\u200b"];
     if (row.className !== look) row.className = look;
   }
+  if (run && (view.of !== run.version || first < view.first || last > view.first + view.rows.length && last <= run.count)) askRows(first, last);
+}
+
+/** Asks for the replies to the lines in sight, and writes them. */
+async function askRows(first, last) {
+  const { version, lines } = run;
+  if (view.asked === `${version} ${first} ${last}`) return;
+  view.asked = `${version} ${first} ${last}`;
+  const told = await run.ask("rows", first, last);
+  if (!told || lines !== run.lines) return;
+  dress(told.colours);
+  Object.assign(view, { first, of: version, rows: told.rows.map((row, k) => ({ ...row, line: lines[first + k], key: JSON.stringify(row) })) });
+  paint();
+}
+
+/** Takes note of the script as it is now typed: its lines, and the room that they take. */
+function measure() {
+  view.lines = ui.script.value.split("\n");
+  const longest = view.lines.reduce((most, line) => Math.max(most, line.length), 0);
+  ui.shown.style.height = `${view.lines.length * HEIGHT}px`;
+  ui.script.style.minWidth = `calc(${longest}ch + 6rem)`;
+}
+
+/** Brings a line into sight. */
+function reveal(line) {
+  const { scrollTop, clientHeight } = ui.editor, top = line * HEIGHT;
+  if (top < scrollTop || top + 2 * HEIGHT > scrollTop + clientHeight) ui.editor.scrollTop = top < scrollTop ? top : top + 2 * HEIGHT - clientHeight;
 }
 
 function offer() {
-  const { value, selectionStart } = ui.script, begin = value.slice(value.lastIndexOf("\n", selectionStart - 1) + 1, selectionStart), names = new Set(run?.moments[current]?.before.names.keys());
+  const { value, selectionStart } = ui.script, begin = value.slice(value.lastIndexOf("\n", selectionStart - 1) + 1, selectionStart), names = new Set(shown?.names);
   const { stem, words, told } = /^\s*#/.test(begin) ? { words: [], told: "" } : language.offers(begin, names);
   ui.offers.replaceChildren(...words.slice(0, 12).map(word => made("button", word, { type: "button", onclick: () => complete(stem, word) })), told && begin.trim() ? ` ${told}` : "");
   return { stem, words };
@@ -147,69 +190,82 @@ function complete(stem, word) {
   document.execCommand("insertText", false, word.slice(stem.length) + " ");
 }
 
-// ---- a line and its picture
+/** Whether the caret is in a line for which others are offered. */
+const isOffered = () => Boolean(shown?.offered.length) && caretLine() === shown.line && view.lines[shown.line] === shown.text;
 
-function show(line) {
-  current = Math.max(0, Math.min(line, (run?.moments.length ?? 1) - 1));
-  const moment = run?.moments[current];
-  dress(run?.hues.size ?? 0);
-  paint();
-  offer();
-  if (!moment) return;
-  ui.slider.max = run.moments.length - 1;
-  ui.slider.value = current;
-  ui.slider.setAttribute("aria-valuetext", `Line ${moment.number}: ${moment.line}`);
-  ui.line.textContent = `Line ${moment.number}: ${cut(moment.line, 300)}`;
-  ui.reply.textContent = cut(moment.reply.text, 4000);
-  ui.reply.className = moment.reply.accepted ? "" : "no";
-  const hint = moment.reply.accepted ? "" : language.hint(moment).text;
-  ui.hint.textContent = hint && hint[0].toUpperCase() + hint.slice(1);
-  ui.words.textContent = run.fault || (moment.reply.text ? said(moment) : moment.line.trim() ? "A comment has no reply." : "");
-  draw(moment);
+/** Puts the lines that are offered in the place of the line. */
+function takeOffer() {
+  const { line, text, offered } = shown, begin = view.lines.slice(0, line).reduce((sum, each) => sum + each.length + 1, 0);
+  ui.script.focus();
+  ui.script.setSelectionRange(begin, begin + text.length);
+  document.execCommand("insertText", false, offered.join("\n"));
 }
 
-function draw(moment) {
-  const room = Math.max(300, ui.pictures.clientWidth - 8), key = `${room} ${ui.all.checked}`;
-  if (drawn?.moment === moment && drawn.key === key) return;
-  const { tables, hidden } = tablesOf(moment, run.hues, ui.all.checked);
-  drawn = { moment, key, tables };
-  cursor = null;
-  ui.lit.textContent = "";
-  ui.pictures.innerHTML = tables.map(table => figure(table, room)).join("") + (hidden ? `<p>${hidden} more buffers are not drawn.</p>` : "");
-  ui.more.hidden = !ui.all.checked && !tables.some(({ caption }) => caption.includes("more names"));
-  if (ui.cells.open) cells();
-  document.body.dataset.drawn = moment.number;
+// ---- a line and its picture
+
+/** Shows a line, as far as it has run. */
+async function show(line) {
+  const mine = ++isAsked, { lines } = run, most = run.isRunning ? lines.length : run.count;
+  current = Math.max(0, Math.min(line, hold ? Math.max(most, hold.at + 1) - 1 : most - 1));
+  paint();
+  offer();
+  ui.slider.max = Math.max(0, run.count - 1);
+  ui.slider.value = current;
+  if (hold && current >= hold.at) { tellHeld(); return; }
+  const found = await run.ask("view", current, Math.max(300, ui.pictures.clientWidth - 8), ui.all.checked, ui.cells.open);
+  if (!found || mine !== isAsked || lines !== run.lines) return;
+  const isSame = shown?.pictures === found.pictures;
+  shown = found;
+  dress(found.colours);
+  paint();
+  offer();
+  ui.slider.setAttribute("aria-valuetext", `Line ${found.number}: ${found.text}`);
+  ui.line.textContent = `Line ${found.number}: ${cut(found.text, 300)}`;
+  ui.reply.textContent = found.reply.text;
+  ui.reply.className = found.reply.accepted ? "" : "no";
+  tellHint(found);
+  ui.words.textContent = run.fault || found.words;
+  draw(isSame);
+}
+
+function tellHint({ hint, offered }) {
+  ui.hint.replaceChildren(hint && hint[0].toUpperCase() + hint.slice(1));
+  ui.take.hidden = !offered.length;
+  ui.take.replaceChildren(made("pre", offered.join("\n")), made("button", offered.length > 1 ? "Write these lines" : "Write this line", { type: "button", onclick: takeOffer }), " or press Tab in the line.");
+}
+
+function draw(isSame) {
+  if (!isSame) {
+    cursor = null;
+    ui.lit.textContent = "";
+    ui.pictures.innerHTML = shown.pictures;
+  }
+  ui.more.hidden = !ui.all.checked && !shown.isFolded;
+  if (ui.cells.open) tellCells();
+  document.body.dataset.drawn = shown.number;
 }
 
 /** The cells of the line's buffers in words, for a screen reader. */
-function cells() {
-  const { moment, tables } = drawn, table = made("table", ""), head = table.createTHead().insertRow(), body = table.createTBody();
+function tellCells() {
+  const table = made("table", ""), head = table.createTHead().insertRow(), body = table.createTBody();
   for (const text of ["Buffer", "Byte", "Value", "Before", "Comes from", "Names"]) head.append(made("th", text, { scope: "col" }));
-  for (const { buffer: number, rows, caption } of tables.filter(each => each.rows[0].label === "byte")) {
-    const [now, old] = ["now", "old"].map(look => rows.find(row => row.look === look)?.boxes ?? []);
-    for (const box of now.filter(each => each.byte !== undefined && each.look !== "pad").slice(0, 200)) {
-      const from = moment.written.has(number) ? moment.moved.get(box.byte) : undefined, before = old.find(each => each.byte === box.byte && each.look === "x");
-      const names = seenAt(moment, number, box.byte).map(({ operand }) => operand).join(", "), row = body.insertRow();
-      for (const text of [number, box.byte, box.text, before?.text ?? "", from ? `byte ${from.byte} of buffer ${from.buffer}` : "", names]) row.append(made("td", String(text)));
-    }
+  for (const { caption, rows } of shown.cells) {
+    for (const texts of rows) body.insertRow().append(...texts.map(text => made("td", String(text))));
     table.caption ??= made("caption", caption);
   }
   ui.cells.lastElementChild.replaceChildren(table);
 }
 
 /** Lights up a byte of a buffer wherever it is drawn, and says what it is for each name. */
-function light(number, byte) {
+async function light(number, byte) {
   for (const lit of ui.pictures.querySelectorAll(".lit")) lit.classList.remove("lit");
   if (number === undefined) return;
   cursor = { number, byte };
   for (const figure_ of ui.pictures.querySelectorAll(`figure[data-buffer="${number}"]`)) {
     for (const rect of figure_.querySelectorAll("[data-at]")) if (+rect.dataset.at <= byte && byte < +rect.dataset.at + +rect.dataset.size) rect.classList.add("lit");
   }
-  const { moment } = drawn, kind = (moment.after.buffers.get(number) ?? moment.before.buffers.get(number)).kind, leaf = kind.leaves.find(each => each.at <= byte % kind.size && byte % kind.size < each.at + each.size);
-  const begin = leaf ? byte - byte % kind.size + leaf.at : byte, seen = seenAt(moment, number, begin), old = moment.before.buffers.get(number)?.values.get(begin), now = moment.after.buffers.get(number)?.values.get(begin);
-  const from = moment.written.has(number) ? moment.moved.get(begin) : undefined, was = old !== undefined && now !== undefined && old !== now ? `, before ${old}` : "";
-  const bytes = leaf ? bytesIn(leaf, now ?? old) : "";
-  ui.lit.textContent = `Byte ${begin} of buffer ${number}${bytes && ` (${bytes})`}${was}${from ? `, from byte ${from.byte} of buffer ${from.buffer}` : ""}: ${seen.map(({ operand, value }) => `${operand} is ${value}`).join(", ") || "no name sees it"}`;
+  const text = await run.ask("light", shown.line, number, byte);
+  if (cursor?.number === number && cursor.byte === byte) ui.lit.textContent = text ?? "";
 }
 
 function lightNext(step) {
@@ -223,12 +279,7 @@ function lightNext(step) {
 // ---- files, links
 
 function listFiles() {
-  const saved = new Set(run?.moments.filter(({ reply }) => reply.text.startsWith("ok save ")).map(({ line }) => /"(.*)"/.exec(line)[1])), { trace } = run;
-  const links = [...saved].map(name => {
-    const link = made("a", `${name} (saved)`, { download: name, href: "#" });
-    link.onclick = () => { link.href = URL.createObjectURL(new Blob([trace.bench.files.get(name)])); };
-    return link;
-  });
+  const links = run.saved.map(name => made("button", `${name} (saved)`, { type: "button", className: "saved", onclick: async () => save(name, await run.ask("file", name), "application/octet-stream") }));
   const given_ = [...files].map(([name, bytes]) => made("button", `${name}, ${bytes.length} bytes ✕`, { type: "button", title: `Take ${name} away`, onclick: () => { files.delete(name); start(true); } }));
   ui.files.replaceChildren(...(links.length + given_.length ? ["Files: ", ...given_, ...links] : []));
 }
@@ -251,20 +302,36 @@ async function take(list) {
 }
 
 /** Says something for some seconds, with a button for longer. */
-function note(text, ...buttons) {
-  const shown = made("span", text);
-  ui.note.replaceChildren(shown, ...buttons);
-  setTimeout(() => { if (shown.parentNode) ui.note.replaceChildren(); }, buttons.length ? 60_000 : 6000);
+function note(text, ...buttons) { noteFor(buttons.length ? 60 : 6, text, ...buttons); }
+
+function noteFor(seconds, text, ...buttons) {
+  const said = made("span", text);
+  ui.note.replaceChildren(said, ...buttons);
+  setTimeout(() => { if (said.parentNode) ui.note.replaceChildren(); }, 1000 * seconds);
 }
 
-async function copy(text, told) {
-  try { await navigator.clipboard.writeText(text); note(told); } catch { prompt("Copy:", text); }
+async function copy(text, told, ...buttons) {
+  try { await navigator.clipboard.writeText(text); note(told, ...buttons); } catch { prompt("Copy:", text); }
 }
 
 async function linkOf(text) {
   const packed = new Uint8Array(await new Response(new Blob([text]).stream().pipeThrough(new CompressionStream("deflate-raw"))).arrayBuffer());
-  const letters = btoa(Array.from(packed, byte => String.fromCharCode(byte)).join("")).replaceAll("+", "-").replaceAll("/", "_").replaceAll("=", "");
+  const letters = letters64(packed).replaceAll("+", "-").replaceAll("/", "_").replaceAll("=", "");
   return `${location.href.split("#")[0]}#script=${letters}&line=${current + 1}`;
+}
+
+const letters64 = bytes => btoa(Array.from(bytes, byte => String.fromCharCode(byte)).join(""));
+
+/** The page with the script and its files in it, as `bench-tool draw` makes it. */
+function pageOf(script) {
+  const held = Object.fromEntries([...files].map(([name, bytes]) => [name, letters64(bytes)])), title = given.title ?? "script.bench";
+  const text = JSON.stringify({ title, script, files: held, undo: given.undo ?? 16, line: current + 1 }).replaceAll("<", "\\u003c");
+  return source.replace(/(<script type="application\/json" id="given">)[^<]*/, (_, begin) => begin + text);
+}
+
+function savePage() {
+  if ([...files.values()].reduce((sum, { length }) => sum + length, 0) > MOST_FILES) { note("The files are too large for a page."); return; }
+  save(`${(given.title ?? "script").replace(/\.bench$/, "")}.html`, pageOf(ui.script.value), "text/html");
 }
 
 /** The script and the line of a link, and what is wrong with it. */
@@ -289,19 +356,47 @@ function mightRunLong(text) {
 
 /** Runs the script, from nothing where files have changed, and shows the line of the caret, or another. */
 async function start(isNew = false, line = caretLine()) {
-  const mine = ++generation, text = ui.script.value;
-  if (isNew) run.trace = null;
-  isHeld = false;
+  const mine = ++generation, lines = linesOf(ui.script.value);
+  run.isNew ||= isNew;
+  if (hold && lines.slice(0, hold.at + 1).join("\n") !== hold.text) hold = null;
   keepScript();
-  paint();
-  const isWhole = await run.run(text, () => {
-    if (mine === generation && run.moments.length > line) show(line);
-    return mine === generation;
-  });
-  if (!isWhole) return;
+  measure();
+  const whole = run.run(lines, hold?.at, line);
   show(line);
+  if (!await whole || mine !== generation) return;
+  ui.busy.hidden = true;
+  await show(line);
+  if (mine !== generation) return;
   listFiles();
   document.body.dataset.ran = mine;
+}
+
+/** Says which line is running, if it takes long, and shows the line that was asked for as soon as it has run. */
+function watch() {
+  const isLong = run?.isRunning && performance.now() - run.begun > WAIT;
+  ui.busy.hidden = !isLong;
+  if (!isLong) return;
+  ui.busy.firstChild.data = `Line ${run.at + 1} of ${run.lines.length} is running. `;
+  ui.stop.hidden = !run.worker;
+  if (performance.now() - run.since < WAIT) run.version += 1;
+  paint();
+}
+
+/** Stops the script in the line that is running. The lines before it run again, and it waits. */
+function stop() {
+  const line = run.at;
+  hold = { at: line, text: run.lines.slice(0, line + 1).join("\n"), why: `Line ${line + 1} was stopped. The lines before it have run again. ` };
+  run.stop();
+  start(false, line);
+}
+
+/** Says why the script waits, with a button that goes on. */
+function tellHeld() {
+  ui.line.textContent = `Line ${current + 1}: ${cut(view.lines[current] ?? "", 300)}`;
+  for (const part of [ui.reply, ui.hint, ui.pictures, ui.lit]) part.textContent = "";
+  ui.take.hidden = true;
+  shown = null;
+  ui.words.replaceChildren(hold.why, made("button", "Run it", { type: "button", onclick: () => { hold = null; start(); } }));
 }
 
 // The script is kept in the browser, by the address of the page, with the script that the page came with.
@@ -335,8 +430,9 @@ function write(text) {
 }
 
 const save = (name, text, type) => made("a", "", { download: name, href: URL.createObjectURL(new Blob([text], { type })) }).click();
-const went = line => { if (line !== current && run.moments[line]) show(line); };
-ui.script.addEventListener("input", () => { if (!isWriting) start(); });
+const went = line => { if (line !== current && line < Math.max(run.count, hold ? hold.at + 1 : 0)) show(line); };
+let planned = 0; // a paste may come as many events, and is one run
+ui.script.addEventListener("input", () => { clearTimeout(planned); if (!isWriting) planned = setTimeout(start); });
 ui.keep.addEventListener("click", () => save("script.bench", ui.script.value, "text/plain"));
 document.addEventListener("selectionchange", () => { if (document.activeElement === ui.script && run) { went(caretLine()); offer(); } });
 ui.script.addEventListener("keydown", event => {
@@ -344,11 +440,12 @@ ui.script.addEventListener("keydown", event => {
   else if (event.key !== "Tab") delete ui.script.dataset.leaves;
   if (event.key !== "Tab" || event.shiftKey || ui.script.dataset.leaves) return;
   const { stem, words } = offer();
-  if (!stem || !words.length) return;
+  if (!isOffered() && (!stem || !words.length)) return;
   event.preventDefault();
-  complete(stem, words[0]);
+  if (isOffered()) takeOffer();
+  else complete(stem, words[0]);
 });
-const goTo = line => { if (run.moments[line]) { moveTo(line); show(line); ui.shown.children[line]?.scrollIntoView({ block: "nearest" }); } };
+const goTo = line => { if (line >= 0 && line < run.count) { moveTo(line); reveal(line); show(line); } };
 ui.slider.addEventListener("input", () => goTo(+ui.slider.value));
 ui.back.addEventListener("click", () => goTo(current - 1));
 ui.on.addEventListener("click", () => goTo(current + 1));
@@ -366,9 +463,12 @@ for (const kind of ["pointerover", "click"]) ui.pictures.addEventListener(kind, 
   const rect = event.target.previousElementSibling?.dataset?.at && event.target.tagName === "text" ? event.target.previousElementSibling : event.target;
   if (rect.dataset?.at) light(+rect.closest("figure").dataset.buffer, +rect.dataset.at);
 });
-ui.all.addEventListener("change", () => draw(run.moments[current]));
-ui.cells.addEventListener("toggle", () => { if (ui.cells.open && drawn) cells(); });
-addEventListener("resize", () => { if (run?.moments[current]) draw(run.moments[current]); });
+ui.all.addEventListener("change", () => show(current));
+ui.cells.addEventListener("toggle", () => { if (ui.cells.open && shown) show(current); });
+addEventListener("resize", () => { if (run && shown) show(current); });
+ui.editor.addEventListener("scroll", paint);
+ui.stop.addEventListener("click", stop);
+setInterval(watch, WAIT / 4);
 ui.examples.addEventListener("change", () => { if (language.examples[ui.examples.value]) { replace(language.examples[ui.examples.value]); start(); } });
 ui.open.addEventListener("click", () => ui.chosen.click());
 ui.chosen.addEventListener("change", () => take(ui.chosen.files));
@@ -377,36 +477,31 @@ for (const kind of ["dragover", "dragleave", "drop"]) addEventListener(kind, eve
   document.body.classList.toggle("drops", kind === "dragover");
   if (kind === "drop") take(event.dataTransfer.files);
 });
+ui.page.addEventListener("click", savePage);
 ui.link.addEventListener("click", async () => {
   const link = await linkOf(ui.script.value);
-  await copy(link, link.length > MOST_LINK ? `The link has ${link.length} letters: some programs cut links above 8 KB.` : "The link is copied; it carries the script, but no files.");
+  const long = link.length > MOST_LINK ? `The link has ${link.length} letters: some programs cut links above 8 KB.` : "The link is copied; it carries the script, but no files.";
+  if (location.protocol !== "file:") await copy(link, long);
+  else await copy(link, `${long} This page is on a disk: the link works on this computer only.`, made("button", "Save a page with the script for others", { type: "button", onclick: savePage }));
 });
-ui.numpy.addEventListener("click", () => copy(inNumPy(run.moments), "The script is copied in NumPy's lines; a line without one is a comment."));
-ui.svg.addEventListener("click", () => {
-  const { moment, tables } = drawn, text = picture(moment.line, tables, said(moment));
-  save(`line-${moment.number}.svg`, text, "image/svg+xml");
-});
+ui.numpy.addEventListener("click", () => run.ask("numpy").then(text => copy(text, "The script is copied in NumPy's lines; a line without one is a comment.")));
+ui.svg.addEventListener("click", async () => { if (shown) save(`line-${shown.number}.svg`, await run.ask("svg", shown.line), "image/svg+xml"); });
 /** Shows the script of a link. It runs at once only if it cannot run long. */
 async function open({ text, line, fault }) {
-  if (fault) note(fault);
+  if (fault) noteFor(600, fault);
   if (text === undefined || text === ui.script.value) { if (line) goTo(line - 1); return; }
   replace(text);
   if (!mightRunLong(text)) { await start(false, line ? line - 1 : caretLine()); if (line) goTo(line - 1); return; }
-  hold();
+  waits();
 }
 
 /** Shows a script without running it, with a button that does. */
-function hold() {
-  isHeld = true;
+function waits() {
+  hold = { at: 0, why: "This script came with a link and might run long. " };
   generation += 1;
-  paint();
-  ui.words.replaceChildren("This script came with a link and might run long. ", made("button", "Run it", { type: "button", onclick: () => start() }));
-}
-
-/** The line that shows most of a script: the last one that writes to memory that several names see. */
-function tellingLine(moments) {
-  const found = moments.findLastIndex(({ written, after }) => [...written.keys()].some(number => after.inside(number).length > 1));
-  return found < 0 ? moments.length - 1 : found;
+  measure();
+  run.run([""], 0, 0);
+  show(0);
 }
 
 /** What the page needs and the browser lacks. */
@@ -424,11 +519,13 @@ async function begin() {
   write(asked.text ?? kept() ?? given.script ?? language.examples.mirrored);
   if (given.script === undefined) ui.script.focus({ preventScroll: true });
   else document.body.classList.add("drawn");
+  measure();
+  paint();
   run = window.bench = new Run(await WebAssembly.compile(await unpacked(at("program").textContent, "gzip")), given.undo ?? 16);
-  if (asked.fault) note(asked.fault);
-  if (asked.text !== undefined && mightRunLong(asked.text)) { hold(); return; }
+  if (asked.fault) noteFor(600, asked.fault);
+  if (asked.text !== undefined && mightRunLong(asked.text)) { waits(); return; }
   await start(false, (asked.line || given.line || linesOf(ui.script.value).length) - 1);
-  goTo(asked.line || given.line ? current : tellingLine(run.moments));
+  goTo(asked.line || given.line ? current : await run.ask("telling") ?? 0);
 }
 
 const missing = lacking();

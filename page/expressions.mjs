@@ -13,7 +13,7 @@ const SEVERAL = { where: [["condition", "x", "y"]], concatenate: [["arrays"], ["
 export const isSeveral = word => Object.hasOwn(SEVERAL, word);
 const isNone = each => isKind(each, "Constant") && each.value === null;
 /** Nested tuples as lists: rows, where the type is no record. */
-const listed = each => isKind(each, "Tuple", "List") ? node("List", { elts: each.elts.map(listed) }) : each;
+const asRows = each => isKind(each, "Tuple", "List") ? node("List", { elts: each.elts.map(asRows) }) : each;
 /** Takes an argument out of those that are given by name. */
 const popped = (named, name) => { const found = named.get(name); named.delete(name); return found; };
 const without = (list, ...taken) => list.splice(0, list.length, ...list.filter(each => !taken.includes(each)));
@@ -78,7 +78,7 @@ export class Expressions extends Lines {
     if (!flat(node("List", { elts: each.elts })).every(item => this.isConstant(item))) return kind ? refuse() : this.several("stack", [each], new Map());
     const isRecord = kind.startsWith("T");
     if (isRecord && isKind(each, "Tuple")) return `full ${kind} () ${this.literal(each)}`;
-    const values = this.constant(node("List", { elts: each.elts.map(one => isRecord ? one : listed(one)) })), shape = shapeOf(values), items = flat(values);
+    const values = this.constant(node("List", { elts: each.elts.map(one => isRecord ? one : asRows(one)) })), shape = shapeOf(values), items = flat(values);
     if (!items.length && !kind) refuse("an empty list is one of floats in NumPy: write its type, as `array <i8 (0)`");
     const type = kind || this.rules.kindOfItems(items);
     return [`array ${type} ${shaped(shape)}`, ...items.map(item => typeof item === "string" ? this.ofText(constantOf(item), type) : literalOf(item))].join(" ");

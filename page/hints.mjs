@@ -179,9 +179,9 @@ class Numbers {
   }
 }
 
-/** What is said of refused lines. `open` makes a bench in which a line is tried. */
+/** What is said of refused lines. `open` makes a bench in which a line is tried, of another program where the last one broke. */
 export class Hints {
-  constructor(language, open) { Object.assign(this, { language, open }); }
+  constructor(language, open) { Object.assign(this, { language, open, isBroken: false }); }
 
   /** What is said of a line beside its reply: the lines that are offered, and texts. `names` are all that are bound, `arrays` those that the
    *  line names, each with its printed items if there are few, and `file` gives the bytes of a file. */
@@ -189,11 +189,15 @@ export class Hints {
     if (line.length > LONGEST_LINE) return { offered: [], told: [] };
     let bench;
     try {
-      bench = this.open();
+      bench = this.open(this.isBroken);
+      this.isBroken = false;
       const trial = new Trial(bench, file);
       for (const { array, items } of arrays) for (const text of like(array, items === undefined ? undefined : itemsOf(items))) trial.send(text);
       return code === "E03" ? this.offered(line, trial, names) : { offered: [], told: [this.numbers(line, trial, code)] };
-    } catch { return { offered: [], told: [] }; } finally { bench?.close(); }
+    } catch {
+      this.isBroken = true;
+      return { offered: [], told: [] };
+    } finally { if (!this.isBroken) bench?.close(); }
   }
 
   numbers(line, trial, code) { return new Numbers(trial, this.language.partsOf(line), this.language.rulesOfNumPy).said(code); }

@@ -6,6 +6,8 @@ const SHORT = 160; // letters of a type
 const PLAIN = 12, STRIPES = ["", "left", "right", "left right"]; // names of a buffer without stripes in their cells; where the next ones have them
 const FEW_NAMES = 6, MOST_NAMES = 64, MOST_GRIDS = 4; // that are drawn of a buffer
 const MOST_LEAVES = 16; // values of an item in a grid
+const FEW_RECORDS = 4, PAGE_RECORDS = 20; // that are drawn to scale; of more each has a row, so many in a page
+const UNIT = 4, WIDEST = 20; // letters of a column of such a table, and its columns; where there would be more, each field has a row
 const MOST_BUFFERS = 12; // that a line leaves alone and that are drawn all the same
 
 export const cut = (text, most = LONGEST) => text.length <= most ? text : `${text.slice(0, most >> 1)}…${text.slice(1 - (most >> 1))}`;
@@ -26,6 +28,7 @@ class Drawn {
     const [old, fresh] = [moment.before.buffers.get(number), moment.after.buffers.get(number)], { kind, count } = fresh ?? old;
     Object.assign(this, { moment, number, hues, kind, count, size: kind.size, values: (fresh ?? old).values, focus: moment.focus.get(number) ?? [] });
     this.starts = (fresh ?? old).starts(this.focus);
+    this.isByField = kind.fields.length > 0 && this.starts.length > FEW_RECORDS;
     this.leaves = kind.leaves.slice(0, Math.max(1, Math.floor(1024 / Math.max(1, this.starts.length))));
     this.old = old && fresh && old !== fresh ? old.values : new Map();
     this.changed = new Set([...this.old.keys()].filter(at => this.values.has(at) && this.old.get(at) !== this.values.get(at)));
@@ -59,11 +62,11 @@ class Drawn {
   /** Where a byte is, in columns; undefined where it is not drawn. */
   column(byte) {
     const inside = byte % this.size, column = this.columns.get(Math.floor(byte - inside));
-    return column === undefined ? undefined : column + inside / this.size;
+    return column === undefined ? undefined : column + (this.isByField ? 0 : inside / this.size);
   }
 
-  /** A box for some bytes, to scale. */
-  box(text, byte, size, look = "") { return { text, look, byte, size, at: this.column(byte), width: size / this.size }; }
+  /** A box for some bytes, to scale; as wide as a column where each field has a row. */
+  box(text, byte, size, look = "") { return { text, look, byte, size, at: this.column(byte), width: this.isByField ? 1 : size / this.size }; }
 
   gapped(row) { return { ...row, boxes: [...this.gaps.map(at => ({ text: "…", look: "gap", at, width: 1 })), ...row.boxes].sort((left, right) => left.at - right.at) }; }
 
@@ -81,6 +84,36 @@ class Drawn {
     return this.gapped({ label, look, boxes });
   }
 
+  /** The box of a value of a record, with its value before where that has changed. */
+  value(start, { at, size }) {
+    const text = cut(literal(this.values.get(start + at))), isChanged = this.changed.has(start + at), was = isChanged ? cut(literal(this.old.get(start + at))) : undefined;
+    return { ...this.box(isChanged ? `${was}→${text}` : text, start + at, size, isChanged ? "x" : this.written.has(start + at) ? "w" : ""), was };
+  }
+
+  /** A row for each field of the records, with the names that see it alone; and the other names. */
+  fieldRows() {
+    const alone = new Map(this.leaves.map(leaf => [leaf.at, []])), others = [];
+    for (const each of this.names) (each.bound.kind.leaves.length === 1 && alone.get(each.bound.array.at % this.size) || others).push(this.nameRow(each));
+    const rows = this.leaves.flatMap(leaf => [this.gapped({ label: `.${cut(leaf.field, 20)}`, look: "now", boxes: this.starts.map(start => this.value(start, leaf)) }), ...alone.get(leaf.at)]);
+    return [...rows, ...others];
+  }
+
+  /** A table, in pages, in which each record has a row, and each field and each name a column; none if it would be too wide. */
+  records() {
+    const names = this.names.map(each => this.nameRow(each)), cells = this.leaves.map(leaf => this.starts.map(start => this.value(start, leaf)));
+    const heads = [...this.leaves.map(({ field }) => `.${cut(field, 20)}`), ...names.map(({ label }) => label)], columns = [...cells, ...names.map(({ boxes }) => boxes)];
+    const widths = columns.map((boxes, k) => Math.ceil(Math.max(2.5, heads[k].length, ...boxes.map(({ text }) => text.length)) + 0.5) / UNIT), begins = widths.map((_, k) => widths.slice(0, k).reduce((left, right) => left + right, 0));
+    const whole = Math.ceil(widths.reduce((left, right) => left + right, 0)), fields = this.leaves.length;
+    if (whole > WIDEST) return null;
+    const placed = (box, k) => ({ ...box, at: begins[k], width: widths[k] }), head = k => placed({ text: heads[k], look: "" }, k);
+    const heading = [{ label: "byte", look: "place", boxes: range(0, fields).map(head) }, ...names.map(({ hue, note }, k) => ({ label: "", look: "column", hue, isOver: true, boxes: [head(fields + k)], note }))];
+    const record = (start, k) => [{ label: String(start), look: "now", boxes: cells.map((boxes, of) => placed(boxes[k], of)) }, ...names.map((row, of) => ({ ...row, isOver: true, note: "",
+      boxes: row.boxes.filter(({ byte }) => byte - byte % this.size === start).map(box => placed(box, fields + of)) }))];
+    const rows = this.starts.map((start, k) => [...k && start !== this.starts[k - 1] + this.size ? [{ label: "…", look: "place", boxes: [] }] : [], ...record(start, k)]);
+    const pages = range(0, Math.ceil(rows.length / PAGE_RECORDS)).map(k => [...heading, ...rows.slice(k * PAGE_RECORDS, (k + 1) * PAGE_RECORDS).flat()]);
+    return { caption: this.caption, columns: whole, rows: [...heading, ...rows.flat()], pages, moves: [], buffer: this.number };
+  }
+
   /** The cells that a name sees, each with the index by which the name reaches it. */
   nameRow({ name, bound, state }) {
     const { array, kind } = bound, times = product(array.shape) / Math.max(1, bound.count);
@@ -94,20 +127,28 @@ class Drawn {
 
   hue(name) { return this.hues.get(`${name} ${this.number}`); }
 
-  /** The cells of the buffer, and under them those of each name. */
-  strip() {
-    const rows = [this.gapped({ label: "byte", look: "place", boxes: this.starts.map(start => this.box(String(start), start, this.size)) })];
-    if (this.kind.fields.length) rows.push(this.row("field", "field", (_, field) => field));
-    if (this.changed.size) rows.push(this.row("before", "old", at => cut(literal(this.old.get(at)))));
-    rows.push(this.row("value", "now", at => cut(literal(this.values.get(at)))), ...this.names.map(each => this.nameRow(each)));
-    const half = new Map(this.leaves.map(leaf => [leaf.at, leaf.size / 2])), middle = byte => this.column(byte + (half.get(byte % this.size) ?? 0));
-    const pairs = this.state === "changes" ? [...this.moment.moved].filter(([, { buffer }]) => buffer === this.number && this.written.size) : [];
-    const moves = pairs.map(([at, { byte }]) => [middle(byte), middle(at)]).filter(pair => pair.every(place => place !== undefined));
+  /** What the buffer is, and what of it is not drawn. */
+  get caption() {
     const hidden = this.count - this.starts.length, values = this.kind.leaves.length - this.leaves.length;
     const caption = [`Buffer ${this.number}${this.state && ` ${this.state}`}: ${counted(this.count, "item")} of ${cut(this.kind.text, SHORT)}, ${counted(this.count * this.size, "byte")}`,
       hidden && `${hidden} items in between are not drawn`, values && `the last ${values} values of each item are not drawn`,
       this.folded.length && `${this.folded.length} more names see it: ${this.folded.slice(0, 20).join(" ")}${this.folded.length > 20 ? " .." : ""}`];
-    return { caption: caption.filter(Boolean).join("; "), columns: this.columns.size + this.gaps.length, rows, moves, buffer: this.number };
+    return caption.filter(Boolean).join("; ");
+  }
+
+  /** The cells of the buffer, and under them those of each name. */
+  strip() {
+    const rows = [this.gapped({ label: "byte", look: "place", boxes: this.starts.map(start => this.box(String(start), start, this.size)) })];
+    if (this.isByField) rows.push(...this.fieldRows());
+    else {
+      if (this.kind.fields.length) rows.push(this.row("field", "field", (_, field) => field));
+      if (this.changed.size) rows.push(this.row("before", "old", at => cut(literal(this.old.get(at)))));
+      rows.push(this.row("value", "now", at => cut(literal(this.values.get(at)))), ...this.names.map(each => this.nameRow(each)));
+    }
+    const half = new Map(this.leaves.map(leaf => [leaf.at, leaf.size / 2])), middle = byte => this.column(byte + (half.get(byte % this.size) ?? 0));
+    const pairs = this.state === "changes" && !this.isByField ? [...this.moment.moved].filter(([, { buffer }]) => buffer === this.number && this.written.size) : [];
+    const moves = pairs.map(([at, { byte }]) => [middle(byte), middle(at)]).filter(pair => pair.every(place => place !== undefined));
+    return { caption: this.caption, columns: this.columns.size + this.gaps.length, rows, moves, buffer: this.number };
   }
 
   /** Items in rows and columns, one that has changed as `1→2`. */
@@ -127,7 +168,7 @@ class Drawn {
 
   tables() {
     const shown = this.names.filter(({ bound, state }) => state !== "goes" && bound.kind.leaves.length <= MOST_LEAVES).map(each => ({ ...each, grids: each.bound.grids(this.focus) }));
-    return [this.strip(), ...shown.filter(({ grids }) => grids.length).slice(0, MOST_GRIDS).flatMap(({ name, bound, grids }) => grids.map(grid => this.grid(name, bound, grid)))];
+    return [this.isByField && this.records() || this.strip(), ...shown.filter(({ grids }) => grids.length).slice(0, MOST_GRIDS).flatMap(({ name, bound, grids }) => grids.map(grid => this.grid(name, bound, grid)))];
   }
 }
 

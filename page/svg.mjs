@@ -5,11 +5,11 @@ const LIGHT = "--ink:#1a1a1a;--dim:#5f5f5f;--line:#9a9a9a;--page:#fff;--mark:#ff
 const DARK = "--ink:#eee;--dim:#aaa;--line:#777;--page:#16181d;--mark:#6b5200;--wrote:#2b3a22;--light:.78;--vivid:.12";
 const RULES = `
 svg text{font:12px ui-monospace,Menlo,Consolas,monospace;fill:var(--ink)}svg rect{fill:none;stroke:var(--line)}svg .head{font-weight:bold}
-svg .page{fill:var(--page);stroke:none}.place text,.field text,.old text{fill:var(--dim)}.place rect,.field rect,svg .gap{stroke:none}
+svg .page{fill:var(--page);stroke:none}.place text,.field text,.old text{fill:var(--dim)}.place rect,.field rect,.column rect,svg .gap{stroke:none}
 .old rect,svg .pad,.goes rect{stroke-dasharray:3 2}.old .x+text{text-decoration:line-through}
 .now .x,.grid .x{fill:var(--mark);stroke:var(--ink);stroke-width:2}.now .w,.grid .w{fill:var(--wrote);stroke:var(--ink)}
 .name rect{fill:var(--c);stroke:var(--page)}.name text{fill:var(--page)}svg .stripe{fill:var(--page);stroke:none;pointer-events:none}.name .x{stroke:var(--ink);stroke-width:2}.name.goes rect{fill:none;stroke:var(--c)}
-.appears .label,.comes .label,.asked .label{text-decoration:underline}.name .label,.grid .label,.name.goes text,.note{fill:var(--c);font-weight:bold}
+.appears .label,.comes .label,.asked .label{text-decoration:underline}.name .label,.grid .label,.name.goes text,.column text,.note{fill:var(--c);font-weight:bold}
 svg path{fill:none;stroke:var(--ink);stroke-width:1.5;marker-end:url(#tip)}#tip path{fill:var(--ink);stroke:none}`;
 /** The rule of a colour. All are as light; each turns the hue by the golden angle, which spreads the first ones evenly, however many they are. */
 const ruleOf = hue => `.h${hue}{--c:oklch(var(--light) var(--vivid) ${fixed((250 + 137.508 * hue) % 360)})}`;
@@ -53,7 +53,8 @@ function block(table, first, last, margin, width, isLive) {
   for (const row of table.rows) {
     const boxes = row.boxes.filter(inside);
     if (row.look === "old" && !boxes.some(box => box.look === "x")) continue;
-    drawn.push(`<g class="${lookOf(row)}">${textAt(4, y, row.label, 99, ' class="label"')}`);
+    if (row.isOver) y -= LINE; // it stands beside the row before
+    drawn.push(`<g class="${lookOf(row)}">${row.isOver ? "" : textAt(4, y, row.label, 99, ' class="label"')}`);
     for (const { text, at, width: part, look, byte, size } of boxes) {
       const left = margin + (at - first) * width, wide = part * width, place = isLive && byte !== undefined ? ` data-at="${byte}" data-size="${size}"` : "";
       drawn.push(`<rect x="${fixed(left)}" y="${y + 1}" width="${fixed(wide)}" height="${LINE - 3}" class="${look}"${place}/>${textAt(left + wide / 2, y, text, (wide + 2) / LETTER, ' text-anchor="middle"')}`);
@@ -69,14 +70,15 @@ function block(table, first, last, margin, width, isLive) {
   return { drawn: drawn.join(""), width: margin + (last - first) * width + 2, height: y };
 }
 
-/** A table as blocks of at least one column each, the first below its caption and the notes of its rows. */
+/** A table as blocks of at least one column each, the first below its caption and the notes of its rows; or as its pages, behind these. */
 function parts(table, room, isLive = false) {
   const told = [[table.caption, "head"], ...table.rows.filter(row => row.note).map(row => [row.note, `note ${lookOf(row)}`])];
   const lines = told.flatMap(([text, look]) => wrapped(text, Math.floor(room / LETTER) - 1).map(line => [line, look])), height = lines.length * (LINE - 4) + 6;
   const head = lines.map(([line, look], k) => textAt(4, k * (LINE - 4), line, line.length, ` class="${look}"`)).join("");
-  const margin = 12 + LETTER * Math.max(...table.rows.map(row => row.label.length)), longest = Math.max(...lines.map(([line]) => line.length));
+  const margin = 12 + LETTER * Math.max(...table.rows.map(row => row.isOver ? 0 : row.label.length)), longest = Math.max(...lines.map(([line]) => line.length));
   const most = table.columns ? Math.max(0, ...table.rows.map(row => row.boxes.length / table.columns)) : 0;
   const width = Math.min(lettersOf(table), Math.max(80, Math.floor(5 * most))) * LETTER, across = Math.max(1, Math.floor((room - margin) / width)), made = [];
+  if (table.pages) return [{ drawn: head, width: 8 + LETTER * longest, height }, ...table.pages.map(rows => block({ ...table, rows }, 0, table.columns, margin, width, isLive))];
   for (let first = 0; first < Math.max(1, table.columns); first += across) {
     const part = block(table, first, Math.min(table.columns, first + across), margin, width, isLive);
     made.push(first ? part : { drawn: `${head}<g transform="translate(0 ${height})">${part.drawn}</g>`, width: Math.max(8 + LETTER * longest, part.width), height: height + part.height });

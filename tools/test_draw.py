@@ -129,7 +129,7 @@ def items_of_name(row, values):
     found = {}
     for box in row["boxes"]:
         if box["look"] != "gap":
-            inside = [other["text"] for other in values["boxes"] if other["look"] not in ("pad", "gap") and box["byte"] <= other["byte"] < box["byte"] + box["size"]]
+            inside = [other["text"].split("→")[-1] for other in values if other["look"] not in ("pad", "gap") and box["byte"] <= other["byte"] < box["byte"] + box["size"]]
             found[box["number"]] = (inside, box["times"])
     return found
 
@@ -161,7 +161,7 @@ class Pictures(unittest.TestCase):
     def check_tables(self, tables, expected):
         seen, grids, partly, folded = {}, {}, set(), set()
         for table in tables:
-            values = next((row for row in table["rows"] if row["look"] == "now"), None)
+            values = sorted((box for row in table["rows"] if row["look"] == "now" for box in row["boxes"] if "byte" in box), key=lambda box: box["byte"])
             folded |= set(re.findall(r"more names see it: (.*)", table["caption"])[0].split()) if "more names" in table["caption"] else set()
             for row in table["rows"]:
                 if row["look"].startswith("name") and not row["look"].endswith("goes"):

@@ -24,6 +24,7 @@ from bench_tool.session import items_of
 from test_rows import rows, zeros
 
 sys.path.insert(0, str(TOP / "page"))
+import build  # noqa: E402
 import retarget  # noqa: E402
 
 DIST, TRIALS = TOP / "dist", TOP / "tools/trials"
@@ -60,7 +61,7 @@ class Sources(unittest.TestCase):
         self.assertEqual((done.returncode, done.stdout.splitlines()[-1:]), (0, ["page: dist/ has the page of these sources"]), done.stdout + done.stderr)
 
     def test_size(self):
-        self.assertLess(PAGE.stat().st_size, 450_000)
+        self.assertLess(PAGE.stat().st_size, 560_000)
         self.assertNotRegex(pages.form().replace("http://www.w3.org/2000/svg", ""), r"https?://")
 
 
@@ -157,6 +158,39 @@ console.log(JSON.stringify(told));
         self.assertEqual(rest[7:9], [300 * 602 + 300, "no E02 byte not allowed"])
         self.assertEqual(rest[9:], ["Error: the bench is closed", *["RangeError: undo is a number from 0 to 64"] * 2, True])
 
+    def test_a_script(self):
+        """What the page asks of its worker: a script runs from the changed line on; where the second bench has no room, replies go on without
+        pictures; a stack that overflows is told of, and the next change begins anew; a file without room is E40, and the script goes on."""
+        code = """
+import { readFileSync } from "node:fs";
+import { Script } from "%s/page/script.mjs";
+const program = await WebAssembly.compile(readFileSync(new URL("%s/dist/bench.wasm"))), ran = [], script = new Script(program, JSON.parse(readFileSync(0, "utf8")), 16, line => ran.push(line)), told = [];
+const seen = (line, ...more) => { const { reply, words, pictures } = script.view(line, 600, false, ...more); return [reply.text, words, pictures.length > 0]; };
+await script.run(0, ["a = arange <i4 0 3 1", "b = a[1:]", "set b[0] = 7", "print a"]);
+told.push(seen(3), script.view(2, 600, false, true).cells[0].rows[1], script.light(2, 1, 4), script.telling(), ran.splice(0));
+await script.run(2, ["set b[1] = 4", "print a"]);
+ran.splice(0);
+await script.run(2, ["set b[1] = 5", "print a"]);
+told.push(seen(3), ran.splice(0), (await script.run(4, ["names"], 4)).count, ran.splice(0));
+script.trace.second.answer = () => ({ accepted: false, code: "E40", meaning: "out of memory", text: "no E40 out of memory" });
+await script.run(4, ["set a[0] = 9", "print a"]);
+told.push(seen(4), seen(5).slice(0, 2));
+script.trace.step = () => { throw new WebAssembly.RuntimeError("unreachable"); };
+told.push((await script.run(6, ["names"])).fault, (await script.run(6, ["print b"])).fault, seen(6)[0]);
+script.trace.second.files.set = () => { throw new Error("out of memory"); };
+await script.run(7, ['save a "a.npy"', "print a"]);
+told.push(seen(7).slice(0, 2), seen(8)[0], script.file("a.npy").length);
+console.log(JSON.stringify(told));
+"""
+        done = subprocess.run(["node", "--input-type=module", "-e", code % (TOP.as_uri(), TOP.as_uri())], input=build.tables(), capture_output=True, text=True)
+        self.assertEqual(done.stderr, "")
+        blind = "There is no room left to draw the memory of this line."
+        self.assertEqual(json.loads(done.stdout), [
+            ["[0 7 2]", "Nothing changes.", True], [1, 4, "7", "1", "", "a[1], b[0]"], "Byte 4 of buffer 1 (07 00 00 00), before 1: a[1] is 7, b[0] is 7", 2, [0, 1, 2, 3],
+            ["[0 1 5]", "Nothing changes.", True], [2, 3], 4, [], ["ok set 1", blind, True], ["[9 1 5]", blind],
+            "The program stopped in line 7 (its stack overflowed). It starts again with the next change of the script.", "", "[1 5]",
+            ["ok save 140", blind], "[9 1 5]", 140])
+
     def test_heap(self):
         """A million random calls: nothing overlaps, and all is aligned."""
         done = subprocess.run(["node", TRIALS / "page_heap.mjs", str(share(200_000, 1_000_000))], capture_output=True, text=True)
@@ -179,6 +213,8 @@ console.log(JSON.stringify(told));
         self.assertEqual(replies[-2:], ["ok b <i4 (3,) new", "[0 1 2]"])
 
 
+# All lines have run, and the answers stand beside those in sight.
+RAN = "!bench.isRunning && bench.count === bench.lines.length && bench.lines.join('\\n') === script.value.replace(/\\n$/, '') && [...document.querySelectorAll('#shown .l')].every(row => !row.textContent.trim() || row.querySelector('.r') || /^\\s*(#|$)/.test(row.textContent))"
 TYPED = """a = arange <i4 0 5 1
 b = a[::-1]
 set b[1:] = b[:-1]
@@ -220,7 +256,7 @@ class InBrowser:
         page.ask("script.focus(), script.select()")
         before = page.ask("document.body.dataset.ran")
         page.type(text)
-        page.wait(f"document.body.dataset.ran !== '{before}' && bench.moments.length === script.value.replace(/\\n$/, '').split('\\n').length")
+        page.wait(f"document.body.dataset.ran !== '{before}' && ({RAN})")
         return page
 
     def test_a_script(self):
@@ -228,12 +264,12 @@ class InBrowser:
         page = self.typed(self.page(), TYPED)
         self.assertEqual(page.ask("script.value"), TYPED)
         beside = page.ask(BESIDE)
-        self.assertRegex(beside.pop(4), r"^E11 index out of range: .*; b is <i4 \(5,\)$")
+        self.assertRegex(beside.pop(4), r"^E11 index out of range: axis 0 of b has length 5: 9 is outside, -5 to 4 are within$")
         self.assertEqual(beside, ["ok a <i4 (5,) new", "ok b <i4 (5,) view", "ok set 4", "[1 2 3 4 4]", "E03 syntax: expected `,` or `)`"])
         self.assertEqual(page.ask("[line.textContent, reply.textContent, hint.textContent]"), ["Line 6: d = reshape a (2,3", "no E03 syntax", "Expected `,` or `)`"])
         page.key("ArrowUp")
         page.wait("line.textContent.startsWith('Line 5')")
-        self.assertRegex(page.ask("hint.textContent"), r"is outside|b is <i4 \(5,\)")
+        self.assertRegex(page.ask("hint.textContent"), r"^Axis 0 of b has length 5: 9 is outside")
         page.key("ArrowUp"), page.key("ArrowUp")
         page.wait("line.textContent.startsWith('Line 3')")
         self.assertEqual(page.ask(VALUES), [["1", "2", "3", "4", "4"]])
@@ -247,17 +283,19 @@ class InBrowser:
         self.assertEqual(page.ask("script.value"), "a = arange <i4 0 3 1\nb = transpose ")
         page.wait("offers.textContent.includes('the name of an array')")
         page.type("a\nset b[0] = 7")
-        page.wait("bench.moments.length === 3")
+        page.wait(f"bench.lines.length === 3 && ({RAN})")
         page.key("Escape"), page.key("Tab")
         self.assertNotEqual(page.ask("document.activeElement.id"), "script")
         page.ask("slider.focus()")
         page.key("ArrowLeft")
         page.wait("line.textContent.startsWith('Line 2')")
         page.ask("on.click(), pictures.focus()")
+        page.wait("document.body.dataset.drawn === '3'")
         page.key("ArrowRight")
-        self.assertEqual(page.ask("lit.textContent"), "Byte 0 of buffer 1 (07 00 00 00), before 0: a[0] is 7, b[0] is 7")
+        page.wait("lit.textContent === 'Byte 0 of buffer 1 (07 00 00 00), before 0: a[0] is 7, b[0] is 7'")
         page.key("ArrowRight")
-        self.assertEqual(page.ask("[lit.textContent, document.querySelectorAll('#pictures .lit').length]"), ["Byte 4 of buffer 1 (01 00 00 00): a[1] is 1, b[1] is 1", 5])
+        page.wait("lit.textContent === 'Byte 4 of buffer 1 (01 00 00 00): a[1] is 1, b[1] is 1'")
+        self.assertEqual(page.ask("document.querySelectorAll('#pictures .lit').length"), 5)
         page.ask("document.activeElement.blur()")
         page.key("ArrowUp")
         page.wait("line.textContent.startsWith('Line 2')")
@@ -283,8 +321,8 @@ class InBrowser:
             page = self.typed(self.page(folder=folder), 'y = load "x.npy"\nset y[0] = 9\nsave y "y.npy"')
             self.assertEqual(page.ask(BESIDE)[0], "E34 no such file: there is no file of that name")
             page.ask(f"(() => {{ const held = new DataTransfer(); held.items.add(new File([Uint8Array.from(atob('{coded(data)}'), c => c.charCodeAt(0))], 'x.npy')); dispatchEvent(new DragEvent('drop', {{ dataTransfer: held }})); }})()")
-            page.wait("bench.moments[0]?.reply.accepted && document.querySelectorAll('#files a').length")
-            page.ask("document.querySelector('#files a').click()")
+            page.wait("bench.saved.length && document.querySelectorAll('#files .saved').length")
+            page.ask("document.querySelector('#files .saved').click()")
             made, end = pathlib.Path(folder, "y.npy"), time.monotonic() + PATIENT
             while not (made.is_file() and made.stat().st_size) and time.monotonic() < end:  # (Firefox makes an empty file first)
                 time.sleep(0.05)
@@ -322,9 +360,9 @@ class InBrowser:
             page = self.browser.open(link(text))
             self.addCleanup(page.close)
             page.wait("document.getElementById('words')?.textContent.startsWith('This script came with a link')")
-            self.assertEqual(page.ask("[script.value, bench.moments.length]"), [text.decode(), 0])
+            self.assertEqual(page.ask("[script.value, bench.count]"), [text.decode(), 0])
         page.ask("words.querySelector('button').click()")
-        page.wait("bench.moments.length === 300")
+        page.wait("bench.count === 300")
 
     def test_work_is_kept(self):
         """A script survives a reload; an example that takes its place can be taken back, by the button and by Ctrl-Z; it can be saved."""
@@ -353,27 +391,122 @@ class InBrowser:
             page.ask(f"(() => {{ const held = new DataTransfer(); held.items.add(new File(['x'], {json.dumps(name)})); dispatchEvent(new DragEvent('drop', {{ dataTransfer: held }})); }})()")
             page.wait(f"note.textContent.includes({json.dumps(f'load {chr(34)}{spelt}{chr(34)} reads it')})")
 
-    def test_no_room_for_pictures(self):
-        """Where the second bench has no room, replies go on without pictures."""
+    def test_lines_of_numpy(self):
+        """A line of NumPy is answered with lines of the language, which a button or Tab puts in its place; a refusal with its numbers."""
+        page = self.typed(self.page(), "a = arange <i4 0 6 1\nx = a[a > 3]")
+        page.wait("!take.hidden")
+        self.assertEqual(page.ask("[take.querySelector('pre').textContent, document.querySelectorAll('#shown .r')[1].textContent]"),
+                         ["t = gt a 3\nx = a[t]", "E03 syntax: write t = gt a 3; x = a[t]"])
+        page.ask("take.querySelector('button').click()")
+        page.wait(f"script.value.endsWith('\\nt = gt a 3\\nx = a[t]') && ({RAN})")
+        page.type("\na[9] = 1")
+        page.wait("hint.textContent.startsWith('`set a[9] = 1` is then E11: axis 0 of a has length 6: 9 is outside')")
+        self.assertTrue(page.ask("take.hidden"))
+        self.typed(page, "a = arange <i4 0 6 1\na += 1")
+        page.wait("take.textContent.includes('upd a[...] add 1')")
+        page.key("Tab")
+        page.wait(f"script.value === 'a = arange <i4 0 6 1\\nupd a[...] add 1' && ({RAN})")
+        for line, hint in (("m = reshape a (4,-1)", "a is <i4 (6,): 6 items, and 4 does not divide that"), ("set a[:2] = a[:3]", "a[:2] has shape (2,), a[:3] has shape (3,): aligned"),
+                           ("b = a[6]", "axis 0 of a has length 6: 6 is outside, -6 to 5 are within"), ("x = 1.5", "There are no floats")):
+            self.typed(page, f"a = arange <i4 0 6 1\n{line}")
+            page.wait(f"hint.textContent.toLowerCase().startsWith({json.dumps(hint.lower())})")
+        self.assertEqual(self.browser.faults, [])
+
+    def test_records_and_a_narrow_page(self):
+        """Forty records fit a screen; at 390 pixels every button is in reach, and a printed row is one line."""
+        records = " ".join(f"({1_700_000_000 + k},{k * 37 % 700 - 300},{k * 11 % 256})" for k in range(40))
+        script = "\n".join([f"s = array T{{<I:t:<h:temp:B:flags:}} (40) {records}", "head = s[:16]", 'temp = field s "temp"', "set temp[3] = 5"])
+        page = self.typed(self.page(), script)
+        page.wait("document.body.dataset.drawn === '4'")
+        self.assertLess(page.ask("pictures.getBoundingClientRect().bottom"), 900)
+        self.assertEqual(page.ask("[...document.querySelectorAll('#pictures .x + text')].map(text => text.textContent)"), ["-189→5", "[3]", "[3]", "[3]"])
+        page = self.typed(self.page(width=390, height=844), "m = arange <i8 1000000 1000060 1\nm = reshape m (3,20)\nprint m")
+        page.wait("reply.textContent.startsWith('[[1000000')")
+        self.assertEqual(page.ask("[...document.querySelectorAll('#bar button, #bar select')].filter(each => { const { left, right, width } = each.getBoundingClientRect(); return left < 0 || right > 390 || !width; }).length"), 0)
+        self.assertAlmostEqual(page.ask("reply.scrollHeight / parseFloat(getComputedStyle(reply).lineHeight)"), 3, 0)
+
+    def test_without_a_worker(self):
+        """Where a browser makes no worker, the script runs in the page."""
+        with tempfile.TemporaryDirectory() as folder:
+            path = pathlib.Path(folder, "bench.html")
+            path.write_text(PAGE.read_text(encoding="utf-8").replace("worker-src blob:", "worker-src 'none'"), encoding="utf-8")
+            page = self.typed(self.page(path.as_uri()), "a = arange <i4 0 3 1\nprint a")
+            self.assertEqual(page.ask("[reply.textContent, bench.worker]"), ["[0 1 2]", None])
+
+    def test_colours_of_another_script(self):
+        """Names have different colours, whatever they were called in the script before."""
+        page = self.typed(self.page(), "m = arange <i4 0 6 1\nt = m[1:]")
+        self.typed(page, "a = arange <i4 0 6 1\nm = a[1:]\nt = a[2:]")
+        page.wait("document.body.dataset.drawn === '3' && document.querySelectorAll('#pictures g.name').length === 3")
+        self.assertEqual(len(set(page.ask("[...document.querySelectorAll('#pictures g.name')].map(row => getComputedStyle(row.querySelector('rect')).fill)"))), 3)
+
+    def test_a_long_line_is_stopped(self):
+        """A line that runs long is named, and a button stops it: the lines before it are there again, and it waits."""
+        long = "\n".join(["a = arange <i4 0 3 1", "s = full |S60000 (4000) b'x'", *["y = eq s s"] * 400, "print a"])
         page = self.typed(self.page(), "a = arange <i4 0 3 1")
-        page.ask("(trace => { trace.second.answer = () => ({ accepted: false, code: 'E40', meaning: 'out of memory', text: 'no E40 out of memory' }); })(bench.trace)")
-        page.type("\nset a[0] = 7\nprint a")
-        page.wait("bench.moments.length === 3")
-        self.assertEqual(page.ask("[reply.textContent, bench.fault]"), ["[7 1 2]", ""])
-        page.key("ArrowUp")
-        page.wait("words.textContent === 'There is no room left to draw the memory of this line.'")
+        page.ask(f"script.value = {json.dumps(long)}, script.dispatchEvent(new Event('input'))")
+        page.wait("!busy.hidden && bench.at > 1")
+        self.assertRegex(page.ask("busy.textContent"), r"^Line \d+ of 403 is running\. Stop$")
+        page.ask("document.querySelector('#stop').click()")
+        page.wait("words.textContent.includes(' was stopped. The lines before it have run again. ') && !bench.isRunning && bench.count")
+        line = page.ask("bench.count")
+        self.assertTrue(page.ask("words.textContent").startswith(f"Line {line + 1} was stopped."))
+        page.ask("script.setSelectionRange(0, 0), script.focus()")
+        page.wait("reply.textContent === 'ok a <i4 (3,) new'")
+        page.ask("script.setSelectionRange(script.value.indexOf('y = eq'), script.value.length)")
+        page.type("print a")
+        page.wait("reply.textContent === '[0 1 2]'")
+        self.assertEqual(self.browser.faults, [])
 
     def test_many_lines(self):
-        """A line at the end of 10,000 others is answered without running them again, and without writing them again."""
+        """A changed line of 10,000 is answered by itself and what follows it, without running the others again, and without writing them again."""
         page = self.page()
-        page.ask(f"script.value = {json.dumps(chr(10).join(['a = arange <i4 0 100 1', *(f'set a[{k % 100}] = {k}' for k in range(9998))]))}, script.dispatchEvent(new Event('input'))")
-        page.wait("bench.moments.length === 9999")
-        page.ask("window.steps = 0, (step => { bench.trace.step = function (line) { window.steps += 1; return step.call(this, line); }; })(bench.trace.step)")
+        lines = ["a = arange <i4 0 100 1", *(f"set a[{k % 100}] = {k}" if k % 25 == 0 else f"# {k}" for k in range(9998))]
+        page.ask(f"script.value = {json.dumps(chr(10).join(lines))}, script.dispatchEvent(new Event('input'))")
+        page.wait(f"bench.count === 9999 && ({RAN})")
+        page.ask("window.ran = [], (heard => { bench.heard = function (data) { if (typeof data === 'number') window.ran.push(data); return heard.call(this, data); }; })(bench.heard)")
         page.ask("window.changes = 0, new MutationObserver(list => { window.changes += list.length; }).observe(shown, { childList: true, subtree: true, characterData: true })")
         page.ask("script.setRangeText('\\nprint a', script.value.length, script.value.length, 'end'), script.dispatchEvent(new Event('input'))")
-        page.wait("bench.moments.length === 10000")
-        self.assertEqual(page.ask("window.steps"), 1)
-        self.assertLess(page.ask("window.changes"), 50)
+        page.wait(f"bench.count === 10000 && ({RAN})")
+        self.assertEqual(page.ask("window.ran"), [9999])
+        self.assertLess(page.ask("window.changes"), 200)
+        at = "script.value.indexOf('set a[50] = 9950')"
+        page.ask(f"window.ran = [], script.setRangeText('1', {at} + 6, {at} + 7, 'end'), script.dispatchEvent(new Event('input'))")
+        page.wait(f"bench.lines[9951] === 'set a[10] = 9950' && ({RAN})")
+        self.assertLessEqual(page.ask("window.ran.length"), 1100)  # from the last memory that is kept
+        self.assertLess(page.ask("document.querySelectorAll('#shown .l').length"), 200)
+        page.ask("window.runs = 0, (run => { bench.run = function (...given) { window.runs += 1; return run.apply(this, given); }; })(bench.run)")
+        self.typed(page, "\n".join(lines[:1000]))
+        self.assertEqual(page.ask("window.runs"), 1)  # a paste
+
+    def test_a_hundred_thousand_lines(self):
+        """Their number of runs is theirs, the lines in sight alone are in the page, and one at the end is answered by itself."""
+        page = self.page()
+        page.ask("script.value = ['a = arange <i4 0 9 1', ...Array.from({ length: 99999 }, (_, k) => k % 100 ? `# ${k}` : `set a[${k % 9}] = ${k}`)].join('\\n'), script.dispatchEvent(new Event('input'))")
+        page.ask("window.ran = 0, (heard => { bench.heard = function (data) { window.ran += typeof data === 'number'; return heard.call(this, data); }; })(bench.heard)")
+        page.wait("bench.count === 100000 && !bench.isRunning")
+        self.assertLessEqual(page.ask("window.ran"), 100_000)
+        page.ask("window.ran = 0, script.setRangeText('\\nprint a', script.value.length, script.value.length, 'end'), script.dispatchEvent(new Event('input'))")
+        page.wait("reply.textContent.startsWith('[99900 ')")
+        self.assertEqual(page.ask("window.ran"), 1)
+        self.assertLess(page.ask("document.querySelectorAll('#shown .l').length"), 200)
+
+    def test_a_page_is_saved(self):
+        """The page saves itself with the script and its files in it; from a disk, a copied link says that it is of no use elsewhere."""
+        with tempfile.TemporaryDirectory() as folder:
+            page = self.typed(self.page(folder=folder), TYPED + " # </script>")
+            page.ask("(() => { const held = new DataTransfer(); held.items.add(new File([new Uint8Array([1, 200])], 'x.npy')); dispatchEvent(new DragEvent('drop', { dataTransfer: held })); })()")
+            page.wait("document.querySelectorAll('#files button').length")
+            page.ask("navigator.clipboard.writeText = async text => { window.copied = text; }")
+            page.ask("link.click()")
+            page.wait("window.copied && note.textContent.includes('on this computer only')")
+            page.ask("note.querySelector('button').click()")
+            made, end = pathlib.Path(folder, "script.html"), time.monotonic() + PATIENT
+            while not (made.is_file() and made.stat().st_size > 400_000) and time.monotonic() < end:
+                time.sleep(0.05)
+            self.assertEqual(json.loads(pages.GIVEN.search(made.read_text())[0]),
+                             {"title": "script.bench", "script": TYPED + " # </script>", "files": {"x.npy": "Acg="}, "undo": 16, "line": 6})
+            self.assertEqual(self.page(made.as_uri()).ask("[script.value, document.title]"), [TYPED + " # </script>", "script.bench - bench"])
 
     def test_widths_and_colours(self):
         """At 390 and 1280 pixels, light and dark, nothing is wider than the page; names and contrast."""
@@ -382,9 +515,10 @@ class InBrowser:
                 page = self.page(width=width, height=844, is_dark=is_dark)
                 for name in page.ask("[...examples.options].map(option => option.value).filter(Boolean)"):
                     page.ask(f"examples.value = '{name}', examples.dispatchEvent(new Event('change'))")
-                    page.wait("bench.moments.length === script.value.replace(/\\n$/, '').split('\\n').length && bench.lines.join('\\n') === script.value.replace(/\\n$/, '')")
-                    for line in range(page.ask("bench.moments.length")):
+                    page.wait(RAN)
+                    for line in range(page.ask("bench.count")):
                         page.ask(f"slider.value = {line}, slider.dispatchEvent(new Event('input'))")
+                        page.wait(f"document.body.dataset.drawn === '{line + 1}'")
                         self.assertLessEqual(page.ask("document.documentElement.scrollWidth"), width, (name, line))
                 self.assertEqual([(name, ratio) for name, ratio in page.ask(CONTRAST) if ratio < 4.5], [])
                 self.assertEqual(page.ask(UNNAMED), [])
@@ -408,7 +542,7 @@ class InBrowser:
         page = self.page()
         for name in page.ask("[...examples.options].map(option => option.value).filter(Boolean)"):
             page.ask(f"examples.value = '{name}', examples.dispatchEvent(new Event('change'))")
-            page.wait("bench.lines.join('\\n') === script.value.replace(/\\n$/, '')")
+            page.wait(RAN)
             self.assertLess(self.seconds_of_a_key(page, "script.value.length - 1"), 0.3, name)
         self.typed(page, "\n".join(["a = arange <i4 0 1000000 1", *(f"set a[{k * 997}:{k * 997 + 3}] = {k}" for k in range(1000)), "print a"][:-1]))
         self.assertLess(self.seconds_of_a_key(page, "script.value.length"), 3)
@@ -419,16 +553,6 @@ class InBrowser:
         self.assertEqual(page.ask("fetch('https://example.com/').then(() => 'sent', () => 'refused')"), "refused")
         page.ask("(() => { setTimeout('window.made = 1'); document.body.append(Object.assign(document.createElement('script'), { textContent: 'window.made = 2' })); })()")
         self.assertEqual(page.ask("new Promise(done => setTimeout(() => done(window.made ?? 'refused'), 50))"), "refused")
-
-    def test_the_program_stops(self):
-        """A stack that overflows is told of, and the next change begins anew."""
-        page = self.typed(self.page(), "a = arange <i4 0 3 1")
-        page.ask("""(trace => { const { step } = trace; trace.step = function (line) { if (line === "names") throw new WebAssembly.RuntimeError("unreachable"); return step.call(this, line); }; })(bench.trace.constructor.prototype)""")
-        page.type("\nnames")
-        page.wait("words.textContent.startsWith('The program stopped in line 2 (its stack overflowed)')")
-        page.ask("script.setSelectionRange(script.value.indexOf('names'), script.value.length)")
-        page.type("print a")
-        page.wait("reply.textContent === '[0 1 2]'")
 
     def test_drawn_pages(self):
         """`bench-tool draw` fills the page: every kind of script opens, and each line is drawn, without a fault."""
@@ -443,6 +567,7 @@ class InBrowser:
                     self.assertTrue(page.ask("line.textContent").startswith(f"Line {min(2, max(1, len(lines)))}:"), name)
                     for line in range(len(lines)):
                         page.ask(f"slider.value = {line}, slider.dispatchEvent(new Event('input'))")
+                        page.wait(f"document.body.dataset.drawn === '{line + 1}'")
                         self.assertLessEqual(page.ask("document.documentElement.scrollWidth"), width, (name, line))
                     self.assertEqual(self.browser.faults, [], name)
 
