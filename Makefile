@@ -8,8 +8,9 @@
 # make static         out/bench-x86_64-linux-static, of what `make` built, for systems without glibc 2.34; needs gcc and its libc.a
 # make pictures       draws the pictures of the docs from scripts in examples/; needs Node
 # make page           dist/bench.html, the bench in one page, with dist/bench.wasm and dist/bench.mjs; proves bench_c
+# make machines       out/machines/, the program and the library for other machines: x86-64 with AVX2, and aarch64; twenty minutes of one core
 # make words          writes the words of docs/LANGUAGE.md into help, manual page and syntax files
-# make dist           writes dist/ anew, from what `make` built
+# make dist           writes dist/ anew, from what `make`, `make page` and `make machines` made
 # make check          the gate: every proof from scratch, dist/, and `make test`
 PREFIX = /usr/local
 DESTDIR =
@@ -80,6 +81,11 @@ pictures:
 page: $(if $(filter bench_c,$(crates)),prove-bench_c)
 	@page/build.py
 
+machines: machines-bench_main machines-bench_c
+
+machines-%: prove-%
+	@exec tools/make/machines.py $*
+
 words:
 	@tools/make/words.py
 
@@ -92,4 +98,4 @@ test:
 check:
 	@tools/test.py --gate
 
-.PHONY: all library install uninstall package static pictures page words dist test check $(addprefix prove-,$(crates))
+.PHONY: all library install uninstall package static pictures page machines words dist test check $(addprefix prove-,$(crates))

@@ -1,4 +1,4 @@
-"""The gate refuses a library and a program in WebAssembly that are not those of the sources, whatever sums dist/SUMS has."""
+"""The gate refuses a library and a program in WebAssembly that are not those of the sources, whatever sums dist/SHA256SUMS has."""
 import pathlib
 import subprocess
 import sys
