@@ -436,6 +436,23 @@ class Texts(unittest.TestCase):
                            ("library/bench.pc", f"Version: {version}\n")):
             self.assertIn(text, (TOP / file).read_text(), file)
 
+    def test_notices(self):
+        """NOTICES has each library that is linked into dist/, with the copyright lines of its licence files, where the toolchain is."""
+        page = (TOP / "docs/NOTICES.md").read_text()
+        rows = dict(re.findall(r"(?m)^\| ([a-z_]+) \| [^|]* \| ([^|]* \| .*) \|$", page))
+        named = {name for line in (TOP / "crates.txt").read_text().splitlines()[1:] for name in line.partition(":")[2].split()}
+        named = {name for name in named if not (TOP / "crates" / name).is_dir() and f"`{name}`" not in page}
+        kit = shutil.which("rt") and pathlib.Path(shutil.which("rt")).resolve().parents[1]
+        for name in sorted(named) if kit else ():
+            named |= set(re.findall(r"(?m)^dep (\w+)$", (kit / f"rlibs/{name}.rlib/format").read_text()))
+        named = {name for name in named if f"`{name}`" not in page}
+        self.assertLessEqual(named, set(rows))
+        for name in sorted(rows) if kit else ():
+            self.assertIn(name, named)
+            texts = [path.read_text() for path in (kit / "rattle" / name).glob("LICENSE*") if "APACHE" not in path.name]
+            lines = [line for text in texts for line in re.findall(r"(?m)^Copyright .*$", text)]
+            self.assertEqual(rows[name].split(" | ")[1], "; ".join(lines) or "(no line)", name)
+
     @needs_program
     def test_an_empty_script_costs_a_shell_at_most(self):
         """Three milliseconds more than the program, in processor time: the least of some means, as a busy machine makes each longer."""
