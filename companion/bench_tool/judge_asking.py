@@ -173,8 +173,8 @@ def ask_cases(results: Results, chosen: Sequence[Case], processes: int, told: Ca
 
 
 def ask_scripts(results: Results, seed: int, seconds: float, processes: int, told: Callable[[], None]) -> None:
-    """Asks a program random scripts for so many seconds. Each cause is told once, with the smallest script that shows it."""
-    until, lock, raw = time.monotonic() + seconds, threading.Lock(), results.kinds()
+    """Asks a program random scripts for so many seconds after it has begun. Each cause is told once, with the smallest script that shows it."""
+    lock, raw = threading.Lock(), results.kinds()
     most = len(raw) + MOST_CAUSES
 
     def serve(number: int) -> None:
@@ -182,7 +182,7 @@ def ask_scripts(results: Results, seed: int, seconds: float, processes: int, tol
         try:
             results.meet(asker.worker)
             scripts, other = Scripts(Random(f"{seed} {number}"), asker.worker.has, asker.worker.can), Oracle()
-            count = 0
+            count, until = 0, time.monotonic() + seconds
             while time.monotonic() < until and len(raw) < most:
                 question = scripts.question(f"random/{seed}.{number}.{count}")
                 count += 1
