@@ -10,9 +10,9 @@
     SHA256SUMS                   the sums of the files, for `sha256sum -c`
 
 With --check nothing is written: what the gate has just built is compared with dist/. `rt ci` proves bench_c and builds nothing of it, so
-the library and bench.wasm are made here, over the libraries that `rt ci` built. The wheels are made of the other files. Where SOURCES
-names another toolchain than is here, that is said, and only sums are compared. The status is 1 where something differs, 3 where there is
-nothing to compare or to write."""
+the library and bench.wasm are made here, over the libraries that `rt ci` built; what is for other machines is made with BENCH_MACHINES=all,
+and compared where it is made. The wheels are made of the other files. Where SOURCES names another toolchain than is here, that is said, and
+only sums are compared. The status is 1 where something differs, 3 where there is nothing to compare or to write."""
 import io
 import re
 import subprocess
@@ -198,6 +198,7 @@ def differences():
         yield "dist/ is not what these sources and this toolchain give"
     if HAS_LIBRARY:
         yield from made_anew(here)
+        yield from machines.differences(here)
 
 
 def is_of_dist(files, facts, told):

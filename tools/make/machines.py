@@ -6,9 +6,7 @@
 
 rattle checks a crate for each machine, over the libraries that `make` built and with the proofs that it kept, and compiles it. For aarch64
 the toolchain has no C library and no C part of its own: system.c is that part, page/wide.c divides numbers of 128 bits, and GLIBC names the
-calls of the C library. So the same sources give the same bytes everywhere. Nothing is done while the sources and the toolchain are the same.
-
---check tells what differs in dist/ from what is in out/machines/, after it has made that."""
+calls of the C library. So the same sources give the same bytes everywhere. Nothing is done while the sources and the toolchain are the same."""
 import os
 import subprocess
 import sys
@@ -36,7 +34,7 @@ GLIBC = {
     "2.28": "renameat2 statx",
 }
 COMPILED = ["--target=aarch64-unknown-linux-gnu", "-std=c11", "-O2", "-fPIC", "-ffreestanding", "-ffunction-sections", "-nostdinc", "-Wall", "-Wextra", "-Werror"]
-PROGRAM = ["-pie", "--dynamic-linker=/lib/ld-linux-aarch64.so.1", "-e", "_start", "--gc-sections", "--strip-all", "--build-id=none", "-z", "relro", "-z", "now"]
+PROGRAM = ["-pie", "--dynamic-linker=/lib/ld-linux-aarch64.so.1", "-e", "rattle_start", "--gc-sections", "--strip-all", "--build-id=none", "-z", "relro", "-z", "now"]
 
 
 def sum_of_sources():
@@ -124,31 +122,33 @@ def make(crate, name, here):
     print(f"bench: out/machines/{name} is that of these sources")
 
 
-def differences():
-    """What differs in dist/ from what is made of these sources."""
-    for name in FILES:
-        if not (sources.TOP / "dist" / name).is_file() or (sources.TOP / "dist" / name).read_bytes() != (OUT / name).read_bytes():
-            yield f"dist/{name} is not what these sources and this toolchain give: run `make machines`, then `make dist`"
-
-
-def main(words):
-    if sources.kit_folder() is None:
-        raise sources.NotBuilt("this needs the command rt of the toolchain")
-    here = subprocess.run(["rt", "version"], capture_output=True, text=True, check=True).stdout.strip()
-    for crate in [word for word in words if word in MADE] or MADE:
+def make_all(here, crates=MADE):
+    """Makes what is not of these sources."""
+    for crate in crates:
         for name in MADE[crate]:
             if not stands(name, here):
                 make(crate, name, here)
-    found = list(differences()) if "--check" in words else []
-    for line in found:
-        print(f"bench: {line}")
-    return 1 if found else 0
+
+
+def differences(here):
+    """What differs in dist/ from what is made of these sources, as far as it is made; with BENCH_MACHINES=all all of it is."""
+    if os.environ.get("BENCH_MACHINES") == "all":
+        make_all(here)
+    for name in FILES:
+        if stands(name, here) and not ((sources.TOP / "dist" / name).is_file() and sources.digest(sources.TOP / "dist" / name) == sources.digest(OUT / name)):
+            yield f"dist/{name} is not what these sources and this toolchain give: run `make machines`, then `make dist`"
+
+
+def main(crates):
+    if sources.kit_folder() is None:
+        raise sources.NotBuilt("this needs the command rt of the toolchain")
+    make_all(subprocess.run(["rt", "version"], capture_output=True, text=True, check=True).stdout.strip(), crates or MADE)
 
 
 if __name__ == "__main__":
     os.chdir(sources.TOP)
     try:
-        sys.exit(main(sys.argv[1:]))
+        main(sys.argv[1:])
     except (sources.NotBuilt, subprocess.CalledProcessError) as why:
         print(f"bench: {why}", file=sys.stderr)
         sys.exit(3)
