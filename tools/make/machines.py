@@ -33,8 +33,10 @@ GLIBC = {
             " memcpy memmove memset open openat read realloc rename signal sigaction unlink unlinkat write",
     "2.28": "renameat2 statx",
 }
-COMPILED = ["--target=aarch64-unknown-linux-gnu", "-std=c11", "-O2", "-fPIC", "-ffreestanding", "-ffunction-sections", "-nostdinc", "-Wall", "-Wextra", "-Werror"]
-PROGRAM = ["-pie", "--dynamic-linker=/lib/ld-linux-aarch64.so.1", "-e", "rattle_start", "--gc-sections", "--strip-all", "--build-id=none", "-z", "relro", "-z", "now"]
+FOR_AARCH64 = "--target=aarch64-unknown-linux-gnu"
+COMPILED = [FOR_AARCH64, "-std=c11", "-O2", "-fPIC", "-ffreestanding", "-ffunction-sections", "-nostdinc", "-Wall", "-Wextra", "-Werror"]
+PROGRAM = ["-pie", "--dynamic-linker=/lib/ld-linux-aarch64.so.1", "-e", "rattle_start", "--gc-sections", "--strip-all", "--build-id=none",
+           "-z", "relro", "-z", "now"]
 
 
 def sum_of_sources():
@@ -49,7 +51,7 @@ def glibc(folder):
     calls = " ".join(GLIBC.values()).split()
     (folder / "glibc.s").write_text(".text\n" + "".join(f".globl {call}\n.type {call}, @function\n{call}:\n" for call in calls))
     (folder / "versions").write_text("".join(f"GLIBC_{version} {{ {'; '.join(names.split())}; }};\n" for version, names in GLIBC.items()))
-    sources.llvm("clang", "--target=aarch64-unknown-linux-gnu", "-c", folder / "glibc.s", "-o", folder / "glibc.o")
+    sources.llvm("clang", FOR_AARCH64, "-c", folder / "glibc.s", "-o", folder / "glibc.o")
     sources.llvm("ld.lld", "-shared", "--soname=libc.so.6", f"--version-script={folder / 'versions'}", "-o", folder / "libc.so.6", folder / "glibc.o")
     return folder / "libc.so.6"
 
