@@ -37,7 +37,7 @@ def names_of(suite):
 
 
 # The tests that take longest begin first, so that none of them is left alone at the end.
-LONG = ("InChromium.test_drawn", "InFirefox.test_drawn", "widths_and_colours", "test_wheel", "test_time", "test_page", "test_library", "test_draw")
+LONG = ("InChromium.test_drawn", "InFirefox.test_drawn", "widths_and_colours", "test_wheel", "test_machines", "test_time", "test_page", "test_library", "test_draw")
 
 
 def by_length(name):
