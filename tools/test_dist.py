@@ -92,6 +92,61 @@ class Module(unittest.TestCase):
 
 
 @unittest.skipUnless(sources.kit_folder(), "the toolchain is not installed")
+class Machines(InFolder):
+    """What `make machines` does with what rattle compiles, with C in the place of that."""
+
+    def setUp(self):
+        super().setUp()
+        for owner, name, value in ((machines, "DIST", self.folder / "dist"), (machines, "OUT", self.folder / "out"), (module, "compiled", self.stands_in)):
+            patch = unittest.mock.patch.object(owner, name, value)
+            patch.start()
+            self.addCleanup(patch.stop)
+        self.compiled, self.program = [], "int main(void) { return 7; }\n"
+
+    def stands_in(self, crate, here, made, *words):
+        self.compiled.append((crate, *words[:2]))
+        made.parent.mkdir(exist_ok=True)
+        target = words[1] if words[0] == "--target" else "x86_64-unknown-linux-gnu"
+        code, made_of = self.folder / "code.c", made.with_suffix(".o")
+        code.write_text(CALLS if crate == "bench_c" else self.program)
+        sources.llvm("clang", f"--target={target}", "-O2", "-fPIC", "-c", code, "-o", made_of)
+        if crate == "bench_c":
+            made.unlink(missing_ok=True)
+            sources.llvm("llvm-ar", "rcsD", made, made_of)
+        return made
+
+    def test_made_once(self):
+        """Each file is made, for its machine, once for the same sources and toolchain; others are found."""
+        with unittest.mock.patch("builtins.print"):
+            machines.make_all("a kit")
+            self.assertEqual({crate for crate, *_ in self.compiled}, {"bench_main", "bench_c"})
+            self.assertEqual({(option, value) for _, option, value in self.compiled}, set(machines.WORDS.values()))
+            self.assertTrue(machines.stand("a kit"))
+            self.assertEqual({name: data[18] for name, data in machines.made().items()}, {name: 183 if "aarch64" in name else 62 for name in machines.FILES})
+            machines.make_all("a kit")
+            self.assertEqual(len(self.compiled), 4)
+            self.assertFalse(machines.stand("another kit"))
+            (self.folder / "out/bench-aarch64-linux").write_bytes(b"another")
+            machines.make_all("a kit")
+            self.assertEqual(len(self.compiled), 5)
+
+    def test_what_differs_is_told(self):
+        with unittest.mock.patch("builtins.print"), unittest.mock.patch.dict("os.environ"):
+            machines.os.environ.pop("BENCH_MACHINES", None)
+            self.assertEqual(list(machines.differences("a kit")), [])  # (nothing is made)
+            machines.make_all("a kit")
+            sources.put(self.folder / "dist", machines.made())
+            self.assertEqual(list(machines.differences("a kit")), [])
+            (self.folder / "dist/bench-aarch64-linux").unlink()
+            self.assertEqual([line.split()[0] for line in machines.differences("a kit")], ["dist/bench-aarch64-linux"])
+            self.program = "int main(void) { return 8; }\n"
+            machines.stamp("bench-x86_64-v3-linux").unlink()
+            self.assertEqual(len(list(machines.differences("a kit"))), 1)
+            machines.os.environ["BENCH_MACHINES"] = "all"
+            self.assertEqual([line.split()[0] for line in machines.differences("a kit")], ["dist/bench-x86_64-v3-linux", "dist/bench-aarch64-linux"])
+
+
+@unittest.skipUnless(sources.kit_folder(), "the toolchain is not installed")
 class Aarch64(InFolder):
     GLIBC = "/usr/aarch64-linux-gnu"
 

@@ -17,7 +17,7 @@ import library as libraries
 import module as modules
 import sources
 
-OUT = sources.TOP / "out/machines"
+DIST, OUT = sources.TOP / "dist", sources.TOP / "out/machines"
 # Each file with the machine that it is for, by the crate that it is made of.
 MADE = {
     "bench_main": {"bench-x86_64-v3-linux": "x86-64-v3", "bench-aarch64-linux": "aarch64"},
@@ -137,7 +137,7 @@ def differences(here):
     if os.environ.get("BENCH_MACHINES") == "all":
         make_all(here)
     for name in FILES:
-        if stands(name, here) and not ((sources.TOP / "dist" / name).is_file() and sources.digest(sources.TOP / "dist" / name) == sources.digest(OUT / name)):
+        if stands(name, here) and not ((DIST / name).is_file() and sources.digest(DIST / name) == sources.digest(OUT / name)):
             yield f"dist/{name} is not what these sources and this toolchain give: run `make machines`, then `make dist`"
 
 
