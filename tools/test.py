@@ -41,8 +41,8 @@ def names_of(suite):
 
 
 # The tests that take longest begin first, so that none of them is left alone at the end.
-LONG = ("InChromium.test_drawn", "InFirefox.test_drawn", "widths_and_colours", "test_wheel", "test_time", "test_page", "test_library", "test_draw", "test_what_the_cases_say",
-        "test_every_fault_is_found")
+LONG = ("InChromium.test_drawn", "InFirefox.test_drawn", "widths_and_colours", "test_wheel", "test_machines", "test_time", "test_page", "test_library", "test_draw",
+        "test_what_the_cases_say", "test_every_fault_is_found")
 
 
 def by_length(name):

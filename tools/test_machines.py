@@ -108,7 +108,7 @@ class Equal:
 
 
 @needs_program
-@unittest.skipUnless(made("bench-x86_64-v3-linux").is_file(), "there is no program for x86-64-v3 here")
+@unittest.skipUnless(made("bench-x86_64-v3-linux").is_file(), "nothing is made for x86-64-v3 here")
 class OnV3(Equal, InFolder):
     every = 1
 
@@ -144,7 +144,7 @@ class OnV3(Equal, InFolder):
 
 
 @needs_program
-@unittest.skipUnless(made("bench-aarch64-linux").is_file(), "there is no program for aarch64 here")
+@unittest.skipUnless(made("bench-aarch64-linux").is_file(), "nothing is made for aarch64 here")
 @unittest.skipUnless(shutil.which("qemu-aarch64") and os.path.isdir(ARM_GLIBC), "there is no qemu-aarch64, or no glibc for it")
 class OnArm(Equal, InFolder):
     every = 4

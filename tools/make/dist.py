@@ -3,16 +3,16 @@
 
     bench-x86_64-linux           the program, without its symbols
     libbench.so.1, libbench.a    the library for C
-    bench-x86_64-v3-linux, ..    both for other machines (tools/make/machines.py)
+    bench-x86_64-v3-linux, ..    both for other machines (tools/make/machines.py), if `make machines` made them of these sources
     bench.html, ..               the page (page/build.py), which `make page` has written
     bench_tool-*.whl             the companion with all of these that one machine can use (companion/backend.py)
     SOURCES                      the toolchain, the sums of the sources, and what the files need to run
     SHA256SUMS                   the sums of the files, for `sha256sum -c`
 
 With --check nothing is written: what the gate has just built is compared with dist/. `rt ci` proves bench_c and builds nothing of it, so
-the library and bench.wasm are made here, over the libraries that `rt ci` built. The wheels are made of the other files. Where SOURCES
-names another toolchain than is here, that is said, and only sums are compared. The status is 1 where something differs, 3 where there is
-nothing to compare or to write."""
+the library and bench.wasm are made here, over the libraries that `rt ci` built; what is for other machines is made with BENCH_MACHINES=all,
+and compared where it is made. The wheels are made of the other files. Where SOURCES names another toolchain than is here, that is said, and
+only sums are compared. The status is 1 where something differs, 3 where there is nothing to compare or to write."""
 import io
 import re
 import subprocess
@@ -66,18 +66,26 @@ def library():
     return files, {"libbench.so.1 needs": sources.needs(files["libbench.so.1"])}
 
 
-def others():
-    """The same of what `make machines` has made."""
-    files = machines.made()
+def others(here):
+    """The same of what `make machines` has made, if that is of these sources."""
+    files = machines.made() if machines.stand(here) else {}
+    for name in machines.FILES.keys() - files.keys():
+        (DIST / name).unlink(missing_ok=True)
     return files, {f"{name} needs": sources.needs(data, machines.FILES[name]) for name, data in files.items()}
+
+
+def for_others():
+    """The files of dist/ for other machines."""
+    return [name for name in machines.FILES if (DIST / name).is_file()]
 
 
 def sums_of_sources():
     """What SOURCES says of the sources: a sum for each part of dist/."""
-    sums = {"program sources": sources.sum_of("bench_main")}
-    if HAS_LIBRARY:
-        sums.update({"library sources": sources.library_sum(), "machines sources": machines.sum_of_sources()})
-    return {**sums, **({"page sources": page.program_sum()} if PAGE else {})}
+    sums = {"program sources": lambda: sources.sum_of("bench_main")}
+    sums.update({"library sources": sources.library_sum} if HAS_LIBRARY else {})
+    sums.update({"page sources": page.program_sum} if PAGE else {})
+    sums.update({"machines sources": machines.sum_of_sources} if for_others() else {})
+    return {name: sum_of() for name, sum_of in sums.items()}
 
 
 def wheels():
@@ -94,8 +102,8 @@ def wheels():
 
 def files_of_dist():
     """The names of the files that dist/ must have, but for SHA256SUMS."""
-    built = (NAME, *((*sources.LIBRARIES, *machines.FILES) if HAS_LIBRARY else ()), *PAGE)
-    return sorted((*built, *(path.name for path in DIST.glob("*.whl")), "SOURCES"))
+    built = (NAME, *(sources.LIBRARIES if HAS_LIBRARY else ()), *PAGE)
+    return sorted((*built, *for_others(), *(path.name for path in DIST.glob("*.whl")), "SOURCES"))
 
 
 def sums():
@@ -109,8 +117,6 @@ def stale(here):
         yield "the program is not what `make` builds of these sources: run `make`"
     if HAS_LIBRARY and not (prove.Crate("bench_c", here).stands() and sources.is_library_linked()):
         yield "the library is not what `make` builds of these sources: run `make`"
-    if HAS_LIBRARY and not machines.stand(here):
-        yield "what is there for other machines is not of these sources: run `make machines`"
     if PAGE:
         made = page.OUT / "state"
         if not (DIST / "bench.wasm").is_file() or not made.is_file() or made.read_text() != page.state():
@@ -127,13 +133,16 @@ def write():
     here = kit()
     for why in stale(here):
         raise sources.NotBuilt(why)
-    facts = {"toolchain": here, **sums_of_sources()}
-    for files, more in [program(), *([library(), others()] if HAS_LIBRARY else [])]:
+    needs = {}
+    for files, more in [program(), *([library(), others(here)] if HAS_LIBRARY else [])]:
         put(files)
-        facts.update(more)
+        needs.update(more)
+    if HAS_LIBRARY and not for_others():
+        print("bench: dist/ has nothing for other machines: `make machines` makes that")
     for old in DIST.glob("*.whl"):
         old.unlink()
     put(wheels())
+    facts = {"toolchain": here, **sums_of_sources(), **needs}
     (DIST / "SOURCES").write_text("".join(f"{name}: {fact}\n" for name, fact in facts.items()))
     (DIST / "SHA256SUMS").write_text(sums())
     return 0
@@ -198,6 +207,7 @@ def differences():
         yield "dist/ is not what these sources and this toolchain give"
     if HAS_LIBRARY:
         yield from made_anew(here)
+        yield from machines.differences(here)
 
 
 def is_of_dist(files, facts, told):

@@ -6,9 +6,7 @@
 
 rattle checks a crate for each machine, over the libraries that `make` built and with the proofs that it kept, and compiles it. For aarch64
 the toolchain has no C library and no C part of its own: system.c is that part, page/wide.c divides numbers of 128 bits, and GLIBC names the
-calls of the C library. So the same sources give the same bytes everywhere. Nothing is done while the sources and the toolchain are the same.
-
---check tells what differs in dist/ from what is in out/machines/, after it has made that."""
+calls of the C library. So the same sources give the same bytes everywhere. Nothing is done while the sources and the toolchain are the same."""
 import os
 import subprocess
 import sys
@@ -19,7 +17,7 @@ import library as libraries
 import module as modules
 import sources
 
-OUT = sources.TOP / "out/machines"
+DIST, OUT = sources.TOP / "dist", sources.TOP / "out/machines"
 # Each file with the machine that it is for, by the crate that it is made of.
 MADE = {
     "bench_main": {"bench-x86_64-v3-linux": "x86-64-v3", "bench-aarch64-linux": "aarch64"},
@@ -35,8 +33,10 @@ GLIBC = {
             " memcpy memmove memset open openat read realloc rename signal sigaction unlink unlinkat write",
     "2.28": "renameat2 statx",
 }
-COMPILED = ["--target=aarch64-unknown-linux-gnu", "-std=c11", "-O2", "-fPIC", "-ffreestanding", "-ffunction-sections", "-nostdinc", "-Wall", "-Wextra", "-Werror"]
-PROGRAM = ["-pie", "--dynamic-linker=/lib/ld-linux-aarch64.so.1", "-e", "_start", "--gc-sections", "--strip-all", "--build-id=none", "-z", "relro", "-z", "now"]
+FOR_AARCH64 = "--target=aarch64-unknown-linux-gnu"
+COMPILED = [FOR_AARCH64, "-std=c11", "-O2", "-fPIC", "-ffreestanding", "-ffunction-sections", "-nostdinc", "-Wall", "-Wextra", "-Werror"]
+PROGRAM = ["-pie", "--dynamic-linker=/lib/ld-linux-aarch64.so.1", "-e", "rattle_start", "--gc-sections", "--strip-all", "--build-id=none",
+           "-z", "relro", "-z", "now"]
 
 
 def sum_of_sources():
@@ -51,7 +51,7 @@ def glibc(folder):
     calls = " ".join(GLIBC.values()).split()
     (folder / "glibc.s").write_text(".text\n" + "".join(f".globl {call}\n.type {call}, @function\n{call}:\n" for call in calls))
     (folder / "versions").write_text("".join(f"GLIBC_{version} {{ {'; '.join(names.split())}; }};\n" for version, names in GLIBC.items()))
-    sources.llvm("clang", "--target=aarch64-unknown-linux-gnu", "-c", folder / "glibc.s", "-o", folder / "glibc.o")
+    sources.llvm("clang", FOR_AARCH64, "-c", folder / "glibc.s", "-o", folder / "glibc.o")
     sources.llvm("ld.lld", "-shared", "--soname=libc.so.6", f"--version-script={folder / 'versions'}", "-o", folder / "libc.so.6", folder / "glibc.o")
     return folder / "libc.so.6"
 
@@ -124,31 +124,33 @@ def make(crate, name, here):
     print(f"bench: out/machines/{name} is that of these sources")
 
 
-def differences():
-    """What differs in dist/ from what is made of these sources."""
-    for name in FILES:
-        if not (sources.TOP / "dist" / name).is_file() or (sources.TOP / "dist" / name).read_bytes() != (OUT / name).read_bytes():
-            yield f"dist/{name} is not what these sources and this toolchain give: run `make machines`, then `make dist`"
-
-
-def main(words):
-    if sources.kit_folder() is None:
-        raise sources.NotBuilt("this needs the command rt of the toolchain")
-    here = subprocess.run(["rt", "version"], capture_output=True, text=True, check=True).stdout.strip()
-    for crate in [word for word in words if word in MADE] or MADE:
+def make_all(here, crates=MADE):
+    """Makes what is not of these sources."""
+    for crate in crates:
         for name in MADE[crate]:
             if not stands(name, here):
                 make(crate, name, here)
-    found = list(differences()) if "--check" in words else []
-    for line in found:
-        print(f"bench: {line}")
-    return 1 if found else 0
+
+
+def differences(here):
+    """What differs in dist/ from what is made of these sources, as far as it is made; with BENCH_MACHINES=all all of it is."""
+    if os.environ.get("BENCH_MACHINES") == "all":
+        make_all(here)
+    for name in FILES:
+        if stands(name, here) and not ((DIST / name).is_file() and sources.digest(DIST / name) == sources.digest(OUT / name)):
+            yield f"dist/{name} is not what these sources and this toolchain give: run `make machines`, then `make dist`"
+
+
+def main(crates):
+    if sources.kit_folder() is None:
+        raise sources.NotBuilt("this needs the command rt of the toolchain")
+    make_all(subprocess.run(["rt", "version"], capture_output=True, text=True, check=True).stdout.strip(), crates or MADE)
 
 
 if __name__ == "__main__":
     os.chdir(sources.TOP)
     try:
-        sys.exit(main(sys.argv[1:]))
+        main(sys.argv[1:])
     except (sources.NotBuilt, subprocess.CalledProcessError) as why:
         print(f"bench: {why}", file=sys.stderr)
         sys.exit(3)

@@ -80,7 +80,7 @@ static __attribute__((noreturn, used)) void begin(size_t *stack, void (*at_end)(
     __builtin_trap();
 }
 
-__attribute__((naked, noreturn)) void _start(void)
+__attribute__((naked, noreturn)) void rattle_start(void)
 {
     __asm__("mov x29, #0\n\tmov x30, #0\n\tmov x1, x0\n\tmov x0, sp\n\tb %c0" : : "i"(begin));
 }

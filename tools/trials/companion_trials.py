@@ -19,7 +19,7 @@ from . import TOP
 T = TypeVar("T")
 COMPANION = TOP / "companion"
 TOOL = COMPANION / "bench-tool"
-PLACES = (TOP / "crates/bench_main/out/bench_main", TOP / "dist/bench-x86_64-linux")
+PLACES = (TOP / "crates/bench_main/out/bench_main", TOP / f"dist/bench-{os.uname().machine}-linux")
 PROGRAM = os.environ.get("BENCH") or str(next((path for path in PLACES if os.access(path, os.X_OK)), "none"))
 needs_program = unittest.skipUnless(os.access(PROGRAM, os.X_OK), "no program: none is built or in dist/, and BENCH names none")
 needs_compiler = unittest.skipUnless(shutil.which("cc"), "no C compiler is installed")
