@@ -95,7 +95,7 @@ pub struct Writing {
     pub source: Source,
 }
 
-/// The view with its axes in memory order.
+/// The places of a view, in memory order.
 fn near(alloc: Global, view: Layout) -> Layout
     ensures { IsPermutation (offsets view) (offsets result) }
 {
