@@ -117,6 +117,20 @@ class Planted(unittest.TestCase):
             self.assertIn(verdict.verdict, ("pass", "not supported"), (verdict.question.id, verdict.question.lines, verdict.got))
         self.assertGreater(tried, 2000)
 
+    def test_libraries_that_lack_much(self):
+        """They are asked most of what they can do: so many cases at least, which find so many faults at least, and the right library has none."""
+        least = {"bytes of one axis": (300, 12), "int of two axes": (250, 25), "int64, index arrays and masks": (380, 21), "no writes": (980, 37),
+                 "no steps below 0, no rank 0": (1240, 48)}
+        self.assertEqual(set(least), set(judging.SMALL))
+        for name in share(list(least)[:2], list(least)):
+            with self.subTest(name):
+                adapter = judging.small(self.adapter, name)
+                asked = list(judging.questions(adapter, ALL, 12))
+                self.assertGreaterEqual(len({question.id.split(":")[0] for question in asked}), least[name][0])
+                self.assertEqual([verdict.question.id for verdict in judging.verdicts(adapter, asked) if verdict.verdict in judging.FINDINGS], [])
+                found = [fault for fault in sys.modules["planted_library"].FAULTS if judging.found_by(adapter, asked, fault)]
+                self.assertGreaterEqual(len(found), least[name][1], found)
+
     @needs_library
     def test_random_scripts(self):
         """The right library has no finding in some random scripts, and a few faults are found by them."""
@@ -201,6 +215,22 @@ class Runner(InFolder):
     def test_what_it_lacks_is_no_failure(self):
         text = judged(self.adapter("    def put(self, a, index, value): raise NotImplementedError('no writes')\n", "i8 steps"), "--only", "slices/00", "--seconds", 0, status=0)
         self.assertNotIn("WRONG", text)
+
+    def test_few_axes(self):
+        """With MOST_AXES, a library is asked nothing about more axes, and loses no more of a table than that."""
+        two = "    MOST_AXES = 2\n    def make(self, type, shape, items):\n        assert len(shape) < 3\n        return lib.make(type, shape, items)\n"
+        text = judged(self.adapter(two), "--only", "integers", "--seconds", 0, "--json", self.folder / "r.json", status=0)
+        report = json.loads((self.folder / "r.json").read_text())["programs"][0]
+        self.assertEqual(set(report["cases"].values()), {"pass", "not supported"}, text)
+        self.assertGreater(list(report["cases"].values()).count("pass"), 10)
+        judged(self.adapter(two), "--only", "random", "--seconds", 2, "--processes", 1, status=0)
+
+    def test_operations_together(self):
+        """Findings that differ in the operation alone are shown once."""
+        wrong = "    def compare(self, name, a, b): return lib.unary('not', lib.compare(name, a, b))\n"
+        text = judged(self.adapter(wrong), "--only", "comparisons with a number", "--seconds", 0, status=1)
+        self.assertRegex(text, r"also with (\w\w, ){4}\w\w\n")
+        self.assertEqual(text.count("WRONG: comparisons with a number ("), 1)
 
     def test_expected_findings(self):
         path, known = self.adapter("    def take(self, a, index): return lib.make(a.type, (1,), [0])\n"), self.folder / "known.txt"

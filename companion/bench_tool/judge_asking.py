@@ -131,10 +131,10 @@ class Asker:
         types = cases.types_for(case, self.worker.has)
         if types is None or not methods_of(questions[0]) <= set(self.worker.can):
             return [Verdict(UNSUPPORTED, questions[0], f"it lacks {', '.join(sorted(case.needs - self.worker.has))}")]
-        found: list[Verdict] = []
-        for question in questions:
+        found = [Verdict(UNSUPPORTED, question, f"it has arrays of {self.worker.most_axes} axes") for question in questions if question.axes > self.worker.most_axes]
+        for question in (each for each in questions if each.axes <= self.worker.most_axes):
             found.append(self.verdict(question.retyped(types) if types else question))
-            if sum(verdict.verdict == DIES for verdict in found) >= MOST_DEATHS_OF_CASE or found[-1].verdict == UNSUPPORTED:
+            if sum(verdict.verdict == DIES for verdict in found) >= MOST_DEATHS_OF_CASE:
                 break
         return found
 
@@ -207,7 +207,8 @@ def ask_scripts(results: Results, seed: int, seconds: float, processes: int, tol
         try:
             results.meet(asker.worker)
             search.begin()
-            scripts, other, count = Scripts(Random(f"{seed} {number}"), asker.worker.has, asker.worker.can), Oracle(), 0
+            worker, other, count = asker.worker, Oracle(), 0
+            scripts = Scripts(Random(f"{seed} {number}"), worker.has, worker.can, worker.most_axes)
             while search.goes_on():
                 question = scripts.question(f"{RANDOM_ID}{seed}.{number}.{count}")
                 count += 1

@@ -89,8 +89,16 @@ def table_text(names: Sequence[str], tables: Sequence[Mapping[str, Mapping[str, 
     return "\n".join([made[0], "-" * len(made[0]), *made[1:]])
 
 
-def finding_text(finding: Finding) -> str:
-    """A finding for people: the steps, the calls, what was got and what is right."""
+def families(findings: Sequence[Finding]) -> list[list[Finding]]:
+    """The findings, those that differ in the operation alone together."""
+    found: dict[tuple[str, ...], list[Finding]] = {}
+    for finding in findings:
+        found.setdefault(finding.first.family(), []).append(finding)
+    return list(found.values())
+
+
+def finding_text(finding: Finding, others: Sequence[Finding] = ()) -> str:
+    """A finding for people: the steps, the calls, what was got and what is right, and with which operations it was found as well."""
     first = finding.first
     many = f" ({finding.count} times)" if finding.count > 1 else ""
     parts = [f"{first.verdict.upper()}: {first.question.feature}{many}, {first.question.id}"]
@@ -100,6 +108,8 @@ def finding_text(finding: Finding) -> str:
     parts += [f"  got    {(first.name + ' = ') * bool(first.name)}{printable(first.got, 600)}", f"  right  {printable(first.right, 600)}"]
     if first.what and first.verdict == "wrong":
         parts.append(f"  differs in {first.what}")
+    if others:
+        parts.append(f"  also with {', '.join(getattr(other.first.command, 'operation') for other in others)}")
     if finding.large:
         parts.append(f"  {finding.large}")
     found = link(first)
@@ -144,8 +154,8 @@ def html_text(names: Sequence[str], tables: Sequence[Mapping[str, Mapping[str, i
     parts.append(f"<table><tr><th>feature</th>{head}</tr>{body}</table>")
     for name, found in zip(names, findings):
         parts.append(f"<h2>{html.escape(name)}</h2>")
-        for finding in found:
+        for finding, *others in families(found):
             place = link(finding.first)
             drawn = f'<p><a href="{html.escape(place)}">draw it</a></p>' * bool(place)
-            parts.append(f'<h3 class="{finding.first.verdict}">{html.escape(finding.name)}</h3><pre>{html.escape(finding_text(finding))}</pre>{drawn}')
+            parts.append(f'<h3 class="{finding.first.verdict}">{html.escape(finding.name)}</h3><pre>{html.escape(finding_text(finding, others))}</pre>{drawn}')
     return "".join(parts) + "</html>\n"

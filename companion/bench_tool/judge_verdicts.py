@@ -41,6 +41,11 @@ class Verdict:
         """Findings with the same cause are told once."""
         return (self.verdict, self.question.feature, traits(self.question, self.command), self.what)
 
+    def family(self) -> tuple[str, ...]:
+        """Findings that differ in the operation alone are told together."""
+        others = [word for word in traits(self.question, self.command).split() if word != getattr(self.command, "operation", "")]
+        return (self.verdict, self.question.feature, " ".join(others), self.what)
+
 
 def traits(question: Question, command: Command) -> str:
     """The kind of a command, its operation, and what its index lists have: what findings of one cause have in common."""
