@@ -378,8 +378,16 @@ function watch() {
   if (!isLong) return;
   ui.busy.firstChild.data = `Line ${run.at + 1} of ${run.lines.length} is running. `;
   ui.stop.hidden = !run.worker;
+  if (shown && view.lines[shown.line] !== shown.text) blank();
   if (performance.now() - run.since < WAIT) run.version += 1;
   paint();
+}
+
+/** Takes away what is shown of a line that is no longer there. */
+function blank() {
+  for (const part of [ui.line, ui.reply, ui.hint, ui.words, ui.pictures, ui.lit]) part.textContent = "";
+  ui.take.hidden = true;
+  shown = null;
 }
 
 /** Stops the script in the line that is running. The lines before it run again, and it waits. */
@@ -392,10 +400,8 @@ function stop() {
 
 /** Says why the script waits, with a button that goes on. */
 function tellHeld() {
+  blank();
   ui.line.textContent = `Line ${current + 1}: ${cut(view.lines[current] ?? "", 300)}`;
-  for (const part of [ui.reply, ui.hint, ui.pictures, ui.lit]) part.textContent = "";
-  ui.take.hidden = true;
-  shown = null;
   ui.words.replaceChildren(hold.why, made("button", "Run it", { type: "button", onclick: () => { hold = null; start(); } }));
 }
 
