@@ -149,7 +149,7 @@ function paint() {
     if (row.text !== lines[k] || row.told !== told?.key) [row.text, row.told, row.innerHTML] = [lines[k], told?.key, coloured(lines[k], told) || "\u200b"];
     if (row.className !== look) row.className = look;
   }
-  if (run && (view.of !== run.version || first < view.first || last > view.first + view.rows.length && last <= run.count)) askRows(first, last);
+  if (run && (view.of !== run.version || first < view.first || view.first + view.rows.length < Math.min(last, run.count))) askRows(first, last);
 }
 
 /** Asks for the replies to the lines in sight, and writes them. */
@@ -438,7 +438,7 @@ function write(text) {
 const save = (name, text, type) => made("a", "", { download: name, href: URL.createObjectURL(new Blob([text], { type })) }).click();
 const went = line => { if (line !== current && line < Math.max(run.count, hold ? hold.at + 1 : 0)) show(line); };
 let planned = 0; // a paste may come as many events, and is one run
-ui.script.addEventListener("input", () => { clearTimeout(planned); if (!isWriting) planned = setTimeout(start); });
+ui.script.addEventListener("input", () => { clearTimeout(planned); if (!isWriting) planned = setTimeout(() => start()); });
 ui.keep.addEventListener("click", () => save("script.bench", ui.script.value, "text/plain"));
 document.addEventListener("selectionchange", () => { if (document.activeElement === ui.script && run) { went(caretLine()); offer(); } });
 ui.script.addEventListener("keydown", event => {
@@ -531,7 +531,8 @@ async function begin() {
   if (asked.fault) noteFor(600, asked.fault);
   if (asked.text !== undefined && mightRunLong(asked.text)) { waits(); return; }
   await start(false, (asked.line || given.line || linesOf(ui.script.value).length) - 1);
-  goTo(asked.line || given.line ? current : await run.ask("telling") ?? 0);
+  const { selectionStart } = ui.script, mine = generation, line = asked.line || given.line ? current : await run.ask("telling") ?? 0;
+  if (mine === generation && selectionStart === ui.script.selectionStart) goTo(line);
 }
 
 const missing = lacking();

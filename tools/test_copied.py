@@ -32,7 +32,7 @@ def script(number):
     """A random script, as `bench` takes it, without files."""
     rng = random.Random(f"copied {number}")
     with Session() as bench:
-        lines = scripts.write(rng, lambda line: bench.send(line).text, scripts.PROFILES["small"], rng.randint(5, 25))
+        lines = [step.line for step in scripts.write(rng, lambda line: bench.send(line).text, scripts.PROFILES["small"], rng.randint(5, 25))]
     return [line for line in lines if " load " not in line and not line.startswith(("save", "info", "print", "names"))]
 
 
