@@ -149,7 +149,7 @@ function paint() {
     if (row.text !== lines[k] || row.told !== told?.key) [row.text, row.told, row.innerHTML] = [lines[k], told?.key, coloured(lines[k], told) || "\u200b"];
     if (row.className !== look) row.className = look;
   }
-  if (run && (view.of !== run.version || first < view.first || last > view.first + view.rows.length && last <= run.count)) askRows(first, last);
+  if (run && (view.of !== run.version || first < view.first || view.first + view.rows.length < Math.min(last, run.count))) askRows(first, last);
 }
 
 /** Asks for the replies to the lines in sight, and writes them. */
@@ -378,8 +378,16 @@ function watch() {
   if (!isLong) return;
   ui.busy.firstChild.data = `Line ${run.at + 1} of ${run.lines.length} is running. `;
   ui.stop.hidden = !run.worker;
+  if (shown && view.lines[shown.line] !== shown.text) blank();
   if (performance.now() - run.since < WAIT) run.version += 1;
   paint();
+}
+
+/** Takes away what is shown of a line that is no longer there. */
+function blank() {
+  for (const part of [ui.line, ui.reply, ui.hint, ui.words, ui.pictures, ui.lit]) part.textContent = "";
+  ui.take.hidden = true;
+  shown = null;
 }
 
 /** Stops the script in the line that is running. The lines before it run again, and it waits. */
@@ -392,10 +400,8 @@ function stop() {
 
 /** Says why the script waits, with a button that goes on. */
 function tellHeld() {
+  blank();
   ui.line.textContent = `Line ${current + 1}: ${cut(view.lines[current] ?? "", 300)}`;
-  for (const part of [ui.reply, ui.hint, ui.pictures, ui.lit]) part.textContent = "";
-  ui.take.hidden = true;
-  shown = null;
   ui.words.replaceChildren(hold.why, made("button", "Run it", { type: "button", onclick: () => { hold = null; start(); } }));
 }
 
@@ -432,7 +438,7 @@ function write(text) {
 const save = (name, text, type) => made("a", "", { download: name, href: URL.createObjectURL(new Blob([text], { type })) }).click();
 const went = line => { if (line !== current && line < Math.max(run.count, hold ? hold.at + 1 : 0)) show(line); };
 let planned = 0; // a paste may come as many events, and is one run
-ui.script.addEventListener("input", () => { clearTimeout(planned); if (!isWriting) planned = setTimeout(start); });
+ui.script.addEventListener("input", () => { clearTimeout(planned); if (!isWriting) planned = setTimeout(() => start()); });
 ui.keep.addEventListener("click", () => save("script.bench", ui.script.value, "text/plain"));
 document.addEventListener("selectionchange", () => { if (document.activeElement === ui.script && run) { went(caretLine()); offer(); } });
 ui.script.addEventListener("keydown", event => {
@@ -525,7 +531,8 @@ async function begin() {
   if (asked.fault) noteFor(600, asked.fault);
   if (asked.text !== undefined && mightRunLong(asked.text)) { waits(); return; }
   await start(false, (asked.line || given.line || linesOf(ui.script.value).length) - 1);
-  goTo(asked.line || given.line ? current : await run.ask("telling") ?? 0);
+  const { selectionStart } = ui.script, mine = generation, line = asked.line || given.line ? current : await run.ask("telling") ?? 0;
+  if (mine === generation && selectionStart === ui.script.selectionStart) goTo(line);
 }
 
 const missing = lacking();

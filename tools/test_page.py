@@ -214,7 +214,7 @@ console.log(JSON.stringify(told));
 
 
 # All lines have run, and the answers stand beside those in sight.
-RAN = "!bench.isRunning && bench.count === bench.lines.length && bench.lines.join('\\n') === script.value.replace(/\\n$/, '') && [...document.querySelectorAll('#shown .l')].every(row => !row.textContent.trim() || row.querySelector('.r') || /^\\s*(#|$)/.test(row.textContent))"
+RAN = "!bench.isRunning && bench.count === bench.lines.length && bench.lines.join('\\n') === script.value.replace(/\\n$/, '') && [...document.querySelectorAll('#shown .l')].every(row => row.querySelector('.r') || /^[\\s\\u200b]*(#|$)/.test(row.textContent))"
 TYPED = """a = arange <i4 0 5 1
 b = a[::-1]
 set b[1:] = b[:-1]
