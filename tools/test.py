@@ -1,7 +1,7 @@
 #!/usr/bin/env python3
 """Runs the tests of everything but the proofs: tools/test.py [WORD ..] runs those whose names have one of the words, or all.
 
-It takes some minutes, and needs no toolchain. On a terminal a line says how far it is. Skipped tests are listed with the
+It takes two minutes on four cores, and needs no toolchain. On a terminal a line says how far it is. Skipped tests are listed with the
 reason. The last line is `N passed, M failed, K skipped`. With --gate, `rt ci` runs first and proves everything from scratch, then dist/ is compared with the
 program that it built, and no test may be skipped because there is no program."""
 import concurrent.futures
