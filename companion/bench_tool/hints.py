@@ -16,10 +16,9 @@ from typing import Callable, Iterable, Iterator, Optional, Sequence
 
 from . import language
 from .grammar import Part, Reading, reserved
-from .header import NO_KIND
 from .session import Array, BenchError, Reply, Session
 from .terminal import printable, say
-from .numpy_rules import TYPES
+from .numpy_rules import NO_KIND, TYPES
 from .seen import one_item, seen_by
 from .translate import translated
 from .trials import Trial, like

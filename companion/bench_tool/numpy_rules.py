@@ -9,7 +9,7 @@
 - CALLS: functions and methods with NumPy's parameters, what must hold of the arguments, and what they are then: an expression of the
   same arguments, lines, or a reason after `!`. In lines $x is the name that is made and $t, $u and $v are free names; the last line
   that begins with `$x =` is the value, and a parameter stands for its operand.
-- REASONS: what there is not, and why.
+- REASONS: what there is not, and why. NO_KIND: what there is not, by the letters of types.
 """
 import json
 from typing import Any
@@ -136,10 +136,13 @@ REASONS = {
     NO_TEXT: "str_ unicode_ char",
 }
 
+NO_KIND = {"f": "floats", "c": "complex numbers", "m": "time spans", "M": "dates", "U": "Unicode strings", "O": "Python objects",
+           "V": "plain bytes"}
+
 
 def values() -> dict[str, Any]:
     """All rules, by their names."""
-    names = ("LINES", "OPERATORS", "TURNED", "WORDS", "TYPES", "AND", "CALLS", "REASONS", "NO_FLOATS", "NO_TEXT")
+    names = ("LINES", "OPERATORS", "TURNED", "WORDS", "TYPES", "AND", "CALLS", "REASONS", "NO_FLOATS", "NO_TEXT", "NO_KIND")
     return {name: globals()[name] for name in names}
 
 

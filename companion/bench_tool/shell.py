@@ -215,7 +215,7 @@ class Shell:
             print(language.help_text(rest.strip(), room()[1] * self.is_terminal) + f"\n{DOTS}" * (not rest))
         elif first.startswith("."):
             dot = getattr(self, f"dot_{first[1:]}", None)
-            print(f"    there is no command {printable(first)}; help lists them all") if dot is None else dot(rest.strip())
+            print(f"    there is no command {printable(first)}: .names lists the names, help all commands") if dot is None else dot(rest.strip())
         else:
             is_name = bare.isidentifier() and bare in self.session.names()
             self.send(f"print {bare}" if is_name else line)
