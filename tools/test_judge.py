@@ -14,7 +14,7 @@ from unittest import mock
 from cases import by_numpy
 from trials import judging
 from trials.companion_trials import COMPANION, TOP, InFolder, numpy_or_none, share
-from bench_tool import cases, judge_adapter, library, needs, parse
+from bench_tool import cases, judge_adapter, language, library, needs, parse
 from bench_tool.judge_oracle import Oracle, question_of
 from bench_tool.judge_report import Finding, finding_text
 from bench_tool.judge_shrink import is_small, shrunk, size_of
@@ -24,6 +24,9 @@ from bench_tool.main import main
 ALL = cases.read(place=TOP / "vectors")
 ADAPTERS = TOP / "examples/judge"
 ISSUE = 24  # the first faults of the list are those of other libraries
+# The keys of a case, and what their values are.
+ALWAYS = {"id": str, "feature": str, "needs": list, "lines": list, "steps": list, "want": dict, "numpy": object}
+SOMETIMES = {"refuse": dict, "rows": list, "any_type": bool, "files": dict, "shares": list}
 needs_library = unittest.skipUnless(library.loaded(), "there is no libbench here")
 needs_numpy = unittest.skipUnless(numpy_or_none(), "NumPy is not installed")
 
@@ -52,15 +55,37 @@ class Cases(unittest.TestCase):
             self.assertLessEqual(case.needs, needs.ALL, case.id)
 
     def test_schema(self):
-        """The keys are those of docs/VECTORS.md, and lines are the steps."""
+        """Each line is as the table of docs/VECTORS.md says, and its lines are its steps."""
         page = (TOP / "docs/VECTORS.md").read_text().split("## The schema")[1].split("\n## ")[0]
-        keys = set(re.findall(r"^\| `(\w+)` ", page, re.M))
+        keys = re.findall(r"^\| `(\w+)` ", page, re.M)
+        self.assertEqual(set(keys), {*ALWAYS, *SOMETIMES})
         for path in (TOP / "vectors").glob("*.jsonl"):
             for line in path.read_text().splitlines():
-                self.assertLessEqual(set(json.loads(line)), keys, path.name)
+                self.check_schema(json.loads(line), path.stem)
         for case in ALL:
             if not case.rows:
                 self.assertEqual(next(case.questions()).lines, case.lines)
+
+    def check_schema(self, case, family):
+        self.assertEqual({key: type(value) for key, value in case.items() if key != "numpy"}, {key: {**ALWAYS, **SOMETIMES}[key] for key in case if key != "numpy"})
+        self.assertLessEqual(set(ALWAYS), set(case))
+        self.assertRegex(case["id"], rf"^{family}/\d{{4}}$")
+        self.assertEqual(len(case["lines"]), len(case["steps"]))
+        self.assertLessEqual(set(case["needs"]), needs.ALL)
+        self.assertTrue(case["want"] or "refuse" in case, case["id"])
+        self.assertEqual([set(want) for want in case["want"].values() if "row" not in want], [{"type", "shape", "items"}] * sum("row" not in want for want in case["want"].values()))
+        rows = case.get("rows", [[]])
+        self.assertEqual(len({len(row) for row in rows}), 1)
+        used = set(map(int, re.findall(r'\{"row": (\d+)\}', json.dumps([case["steps"], case["want"], case.get("refuse")]))))
+        self.assertEqual(used, set(range(len(rows[0]))), case["id"])
+        for name, digits in case.get("files", {}).items():
+            self.assertTrue(bytes.fromhex(digits) or not digits, name)
+        if case["numpy"] != "same":
+            self.assertIn(set(case["numpy"]), ({"differs", "version"}, {"open", "version"}))
+        refuse = case.get("refuse")
+        if refuse and "row" not in json.dumps(refuse):
+            self.assertIn(refuse["code"], language.codes())
+            self.assertLess(refuse["step"], len(case["steps"]))
 
     def test_pairs_of_slices(self):
         """All 2,912 pairs, as set, upd, by an index array and by a mask."""
@@ -226,10 +251,10 @@ class Runner(InFolder):
         judged(self.adapter(two), "--only", "random", "--seconds", 2, "--processes", 1, status=0)
 
     def test_operations_together(self):
-        """Findings that differ in the operation alone are shown once."""
+        """Findings of one feature that differ in the operation are shown once."""
         wrong = "    def compare(self, name, a, b): return lib.unary('not', lib.compare(name, a, b))\n"
         text = judged(self.adapter(wrong), "--only", "comparisons with a number", "--seconds", 0, status=1)
-        self.assertRegex(text, r"also with (\w\w, ){4}\w\w\n")
+        self.assertRegex(text, r"\n  also   (binary \w\w; ){4}binary \w\w\n")
         self.assertEqual(text.count("WRONG: comparisons with a number ("), 1)
 
     def test_expected_findings(self):

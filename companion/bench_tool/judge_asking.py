@@ -16,13 +16,12 @@ from .judge_oracle import Oracle
 from .judge_random import Scripts
 from .judge_runs import MOST_REPLAYED, SLOW, Answer, Died, Program, Worker, again, culprit
 from .judge_shrink import shrunk
-from .judge_verdicts import DIES, PASS, UNSUPPORTED, Verdict, judged, traits, worst
+from .judge_verdicts import DIES, PASS, RANDOM_ID, UNSUPPORTED, Verdict, judged, traits, worst
 
 MOST_DEATHS = 12  # of one feature, after which the rest of it is not asked
 MOST_DEATHS_OF_CASE = 3
 MOST_CAUSES = 40  # of random scripts
 BATCH = 25  # cases that a process takes at a time
-RANDOM_ID = "random/"  # the ids of random scripts begin so
 # The methods of an adapter that a command calls, if they are not called as the command.
 CALLS = {"zeros": "make", "full": "make", "arange": "make", "array": "make", "set": "put", "upd": "update"}
 

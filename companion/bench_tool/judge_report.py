@@ -11,22 +11,26 @@ from typing import Any, Iterator, Mapping, Sequence
 from xml.sax.saxutils import quoteattr
 
 from . import page
-from .judge_asking import RANDOM_ID
 from .judge_shrink import is_small, size_of
-from .judge_verdicts import BAD, PASS, UNSUPPORTED, VERDICTS, Verdict
+from .judge_verdicts import BAD, PASS, RANDOM_ID, UNSUPPORTED, VERDICTS, Verdict, traits
 from .terminal import printable
 
-SHORT = {"not supported": "-"}
+MOST_OTHERS = 5  # kinds of steps that are named beside the first
 STYLE = """body { font: 15px/1.5 system-ui, sans-serif; margin: 2em auto; max-width: 70em; padding: 0 1em } table { border-collapse: collapse }
 td, th { border-bottom: 1px solid #ccc; padding: .2em .8em; text-align: left } .wrong, .dies { color: #b00020; font-weight: 600 }
 .accepts, .refuses { color: #8a5a00 } .pass { color: #1b6e2e } pre { background: #f5f5f5; padding: .7em; overflow-x: auto }"""
 
 
+def smallest(verdicts: Sequence[Verdict]) -> Verdict:
+    """The one with the fewest steps and items, the first of these."""
+    return min(verdicts, key=lambda verdict: size_of(verdict.question.commands))
+
+
 class Finding:
-    """Findings with one cause: the first of them, how many there are, and the calls of the adapter."""
+    """Findings with one cause: the smallest of them, how many there are, and the calls of the adapter."""
 
     def __init__(self, verdicts: Sequence[Verdict], calls: Sequence[str] = ()):
-        self.first, self.count, self.calls = verdicts[0], len(verdicts), list(calls)
+        self.first, self.count, self.calls = smallest(verdicts), len(verdicts), list(calls)
 
     @property
     def name(self) -> str:
@@ -90,7 +94,7 @@ def table_text(names: Sequence[str], tables: Sequence[Mapping[str, Mapping[str, 
 
 
 def families(findings: Sequence[Finding]) -> list[list[Finding]]:
-    """The findings, those that differ in the operation alone together."""
+    """The findings, those of one feature that differ only in the operation or in the kinds of indexes together."""
     found: dict[tuple[str, ...], list[Finding]] = {}
     for finding in findings:
         found.setdefault(finding.first.family(), []).append(finding)
@@ -98,7 +102,7 @@ def families(findings: Sequence[Finding]) -> list[list[Finding]]:
 
 
 def finding_text(finding: Finding, others: Sequence[Finding] = ()) -> str:
-    """A finding for people: the steps, the calls, what was got and what is right, and with which operations it was found as well."""
+    """A finding for people: the steps, the calls, what was got and what is right, and the other steps with which it was found."""
     first = finding.first
     many = f" ({finding.count} times)" if finding.count > 1 else ""
     parts = [f"{first.verdict.upper()}: {first.question.feature}{many}, {first.question.id}"]
@@ -109,7 +113,8 @@ def finding_text(finding: Finding, others: Sequence[Finding] = ()) -> str:
     if first.what and first.verdict == "wrong":
         parts.append(f"  differs in {first.what}")
     if others:
-        parts.append(f"  also with {', '.join(getattr(other.first.command, 'operation') for other in others)}")
+        kinds = [traits(other.first.question, other.first.command) for other in others]
+        parts.append(f"  also   {'; '.join(kinds[:MOST_OTHERS])}" + f"; and {len(kinds) - MOST_OTHERS} others" * (len(kinds) > MOST_OTHERS))
     if finding.large:
         parts.append(f"  {finding.large}")
     found = link(first)

@@ -17,6 +17,7 @@ PASS, WRONG, DIES, ACCEPTS, REFUSES, UNSUPPORTED = "pass", "wrong", "dies", "acc
 # From the worst on.
 VERDICTS = (DIES, WRONG, ACCEPTS, REFUSES, PASS, UNSUPPORTED)
 BAD = (WRONG, DIES)
+RANDOM_ID = "random/"  # the ids of random scripts begin so
 TYPE = re.compile(r"(?:.*\.)?[<>=|]?(?:(bool)_?|(u?)int(\d+)|([biu])(\d+)|\?)")
 FLOAT = re.compile(r"float|[<>=]?[fd]\d*$")
 
@@ -42,9 +43,8 @@ class Verdict:
         return (self.verdict, self.question.feature, traits(self.question, self.command), self.what)
 
     def family(self) -> tuple[str, ...]:
-        """Findings that differ in the operation alone are told together."""
-        others = [word for word in traits(self.question, self.command).split() if word != getattr(self.command, "operation", "")]
-        return (self.verdict, self.question.feature, " ".join(others), self.what)
+        """Findings of one feature that differ in the operation or in the kinds of indexes are shown together."""
+        return self.cause() if self.question.id.startswith(RANDOM_ID) else (self.verdict, self.question.feature, self.command.word, self.what)
 
 
 def traits(question: Question, command: Command) -> str:
