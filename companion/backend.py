@@ -20,7 +20,7 @@ TOP = HERE.parent
 # What dist/ has for each machine; the page is for all.
 MACHINES = {
     "x86_64": ("bench-x86_64-linux", "bench-x86_64-v3-linux", "libbench.so.1", "glibc-hwcaps/x86-64-v3/libbench.so.1"),
-    "aarch64": ("bench-aarch64-linux", "aarch64/libbench.so.1"),
+    "aarch64": ("bench-aarch64-linux", "libbench-aarch64.so.1"),
 }
 PAGE = "dist/bench.html"
 LICENSES = ("LICENSE-MIT", "LICENSE-APACHE", "docs/NOTICES.md")

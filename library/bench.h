@@ -1,5 +1,7 @@
 /* bench: a workbench for strided arrays, as a library.
  *
+ * SPDX-License-Identifier: MIT OR Apache-2.0
+ *
  * A handle holds one bench: its named arrays, its undo history, its files (which are kept in memory) and the reply to its
  * last line. Give it the lines of a script one by one:
  *

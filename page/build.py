@@ -10,7 +10,7 @@ build.py            all of these; the module of before is taken where neither so
 build.py --page     the last one alone, with the bench.wasm of dist/
 build.py --check    tells what differs in dist/ from what the sources of the page and dist/bench.wasm give
 
-out/page/state says of which sources dist/bench.wasm was made. `make dist` writes that into SUMS. The gate makes bench.wasm anew from the
+out/page/state says of which sources dist/bench.wasm was made. `make dist` writes that into SOURCES. The gate makes bench.wasm anew from the
 crates that it has just proved, and refuses another one (tools/make/dist.py)."""
 import base64
 import gzip

@@ -1,11 +1,14 @@
 #!/usr/bin/env python3
 """Runs the tests of everything but the proofs: tools/test.py [WORD ..] runs those whose names have one of the words, or all.
 
-It takes two minutes on four cores, and needs no toolchain. On a terminal a line says how far it is. Skipped tests are listed with the
-reason. The last line is `N passed, M failed, K skipped`. With --gate, `rt ci` runs first and proves everything from scratch, then dist/ is compared with the
+It takes some minutes, and needs no toolchain. On a terminal a line says how far it is. Tests that need NumPy run with the first
+`python3` of PATH that has it; the output says which. Skipped tests are listed with the reason. The last line is `N passed, M failed,
+K skipped`. With --gate, `rt ci` runs first and proves everything from scratch, then dist/ is compared with the
 program that it built, and no test may be skipped because there is no program."""
 import concurrent.futures
+import functools
 import io
+import json
 import os
 import pathlib
 import re
@@ -16,6 +19,7 @@ import unittest
 
 TOOLS = pathlib.Path(__file__).resolve().parent
 TOP = TOOLS.parent
+HAS_NUMPY = "import sys, numpy; sys.exit(sys.version_info < (3, 9))"
 sys.path.insert(0, str(TOOLS))
 
 
@@ -37,7 +41,8 @@ def names_of(suite):
 
 
 # The tests that take longest begin first, so that none of them is left alone at the end.
-LONG = ("InChromium.test_drawn", "InFirefox.test_drawn", "widths_and_colours", "test_wheel", "test_time", "test_page", "test_library", "test_draw")
+LONG = ("InChromium.test_drawn", "InFirefox.test_drawn", "widths_and_colours", "test_wheel", "test_machines", "test_time", "test_page", "test_library", "test_draw",
+        "test_what_the_cases_say", "test_every_fault_is_found")
 
 
 def by_length(name):
@@ -62,10 +67,37 @@ def results(names):
 
 
 def run_test(name):
-    """Runs a test. Returns its name, what it says about failures, and why it was skipped."""
+    """Runs a test, with the other Python if it needs NumPy. Returns its name, what it says about failures, and why it was skipped."""
+    found = run_here(name)
+    return run_there(name) if any("NumPy" in why for why in found[2]) and python_with_numpy() else found
+
+
+def run_here(name):
     said = io.StringIO()
     result = unittest.TextTestRunner(said, verbosity=0).run(unittest.defaultTestLoader.loadTestsFromName(name))
     return name, "" if result.wasSuccessful() else said.getvalue(), [why for _, why in result.skipped]
+
+
+def run_there(name):
+    """`run_here` in the Python that has NumPy."""
+    ran = subprocess.run([python_with_numpy(), __file__, "--one", name], capture_output=True, text=True, errors="replace")
+    return json.loads(ran.stdout.splitlines()[-1]) if ran.returncode == 0 else (name, f"{ran.stdout}{ran.stderr}status {ran.returncode}", [])
+
+
+@functools.lru_cache(maxsize=None)
+def python_with_numpy():
+    """Another Python of PATH that has NumPy and is new enough, or nothing."""
+    found = (os.path.join(folder, "python3") for folder in os.get_exec_path())
+    return next((path for path in found if os.access(path, os.X_OK) and subprocess.run([path, "-c", HAS_NUMPY], capture_output=True).returncode == 0), "")
+
+
+def tell_numpy():
+    """Says which Python has NumPy."""
+    try:
+        import numpy
+        print(f"tests that need NumPy: NumPy {numpy.__version__}, {sys.executable}")
+    except ImportError:
+        print(f"tests that need NumPy: {python_with_numpy() or 'skipped, no python3 of PATH has it'}")
 
 
 def run_tests(words, counts, is_gate):
@@ -84,6 +116,7 @@ def run_tests(words, counts, is_gate):
                 counts.left_out[why] = counts.left_out.get(why, 0) + 1
         else:
             counts.passed += 1
+    tell_numpy()
     for why, count in sorted(counts.left_out.items()):
         print(f"skipped: {count}, {why}")
 
@@ -120,4 +153,7 @@ def main(words):
 
 
 if __name__ == "__main__":
+    if sys.argv[1:2] == ["--one"]:
+        print(json.dumps(run_here(sys.argv[2])))
+        sys.exit(0)
     sys.exit(main(sys.argv[1:]))

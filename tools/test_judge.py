@@ -4,21 +4,21 @@ random scripts for ten minutes."""
 import contextlib
 import io
 import json
-
-
 import random
 import re
 import subprocess
 import sys
-
 import unittest
 from unittest import mock
 
 from cases import by_numpy
 from trials import judging
 from trials.companion_trials import COMPANION, TOP, InFolder, numpy_or_none, share
-from bench_tool import cases, judge_adapter, library, needs
-from bench_tool.judge_oracle import Oracle
+from bench_tool import cases, judge_adapter, library, needs, parse
+from bench_tool.judge_oracle import Oracle, question_of
+from bench_tool.judge_report import Finding, finding_text
+from bench_tool.judge_shrink import is_small, shrunk, size_of
+from bench_tool.judge_verdicts import Verdict
 from bench_tool.main import main
 
 ALL = cases.read(place=TOP / "vectors")
@@ -117,6 +117,20 @@ class Planted(unittest.TestCase):
             self.assertIn(verdict.verdict, ("pass", "not supported"), (verdict.question.id, verdict.question.lines, verdict.got))
         self.assertGreater(tried, 2000)
 
+    def test_libraries_that_lack_much(self):
+        """They are asked most of what they can do: so many cases at least, which find so many faults at least, and the right library has none."""
+        least = {"bytes of one axis": (300, 12), "int of two axes": (250, 25), "int64, index arrays and masks": (380, 21), "no writes": (980, 37),
+                 "no steps below 0, no rank 0": (1240, 48)}
+        self.assertEqual(set(least), set(judging.SMALL))
+        for name in share(list(least)[:2], list(least)):
+            with self.subTest(name):
+                adapter = judging.small(self.adapter, name)
+                asked = list(judging.questions(adapter, ALL, 12))
+                self.assertGreaterEqual(len({question.id.split(":")[0] for question in asked}), least[name][0])
+                self.assertEqual([verdict.question.id for verdict in judging.verdicts(adapter, asked) if verdict.verdict in judging.FINDINGS], [])
+                found = [fault for fault in sys.modules["planted_library"].FAULTS if judging.found_by(adapter, asked, fault)]
+                self.assertGreaterEqual(len(found), least[name][1], found)
+
     @needs_library
     def test_random_scripts(self):
         """The right library has no finding in some random scripts, and a few faults are found by them."""
@@ -124,6 +138,33 @@ class Planted(unittest.TestCase):
         faults = sys.modules["planted_library"].FAULTS[:share(6, ISSUE)]
         found = [fault for fault in faults if judging.found_at_random(self.adapter, fault, share(1500, 6000), random.Random(2))]
         self.assertGreaterEqual(len(found), share(4, 18), found)
+
+    @needs_library
+    def test_random_findings_are_small(self):
+        """Each finding of random scripts is shrunk to at most six steps and 12 items."""
+        tried = 0
+        for fault in sys.modules["planted_library"].FAULTS[::share(5, 1)]:
+            found = judging.found_at_random(self.adapter, fault, share(300, 3000), random.Random(3))
+            if found:
+                least = judging.least_of(self.adapter, found, fault)
+                self.assertEqual(least.verdict, found.verdict)
+                self.assertTrue(is_small(least.question.commands), (fault, least.question.lines))
+                self.assertEqual(Finding([least]).large, "")
+                tried += 1
+        self.assertGreaterEqual(tried, share(5, 40))
+
+    @needs_library
+    def test_a_finding_that_stays_large(self):
+        """The report says that a finding could not be made small."""
+        def ask(question):
+            return Verdict("wrong" if size_of(question.commands)[1] > 13 else "pass", question, "items", "x", len(question.commands) - 1)
+
+        oracle = Oracle()
+        steps = oracle.steps([parse(f"a = array <i4 (25) {' '.join(map(str, range(25)))}"), parse("b = neg a"), parse("x = sum b")])
+        least = shrunk(ask(question_of("random/1.0.0", "random scripts", steps)), ask, needs.ALL, oracle)
+        self.assertEqual(size_of(least.question.commands), (2, 14))
+        self.assertIn("\n  not made smaller than 2 steps and 14 items\n", finding_text(Finding([least])) + "\n")
+        self.assertEqual(Finding([least]).to_json()["large"], "not made smaller than 2 steps and 14 items")
 
 
 @needs_library
@@ -162,9 +203,34 @@ class Runner(InFolder):
             text = judged(self.adapter(hangs), "--only", "indexes/0001", "--seconds", 0, "--processes", 1, status=1)
         self.assertIn("no answer in", text)
 
+    def test_late_death(self):
+        """The question that a library does not survive is reported, not the one after it."""
+        hurt = ("    def take(self, a, index):\n        self.hurt = index == (-2,)\n        return lib.take(a, index)\n"
+                "    def make(self, type, shape, items):\n        if getattr(self, 'hurt', False): os.kill(os.getpid(), 11)\n        return lib.make(type, shape, items)\n")
+        text = judged(self.adapter(hurt), "--only", "integers", "--seconds", 0, "--processes", 1, "--json", self.folder / "r.json", status=1)
+        findings = json.loads((self.folder / "r.json").read_text())["programs"][0]["findings"]
+        self.assertEqual({each["lines"][-1] for each in findings}, {"x = a[-2]"}, text)
+        self.assertIn("SIGSEGV", text)
+
     def test_what_it_lacks_is_no_failure(self):
         text = judged(self.adapter("    def put(self, a, index, value): raise NotImplementedError('no writes')\n", "i8 steps"), "--only", "slices/00", "--seconds", 0, status=0)
         self.assertNotIn("WRONG", text)
+
+    def test_few_axes(self):
+        """With MOST_AXES, a library is asked nothing about more axes, and loses no more of a table than that."""
+        two = "    MOST_AXES = 2\n    def make(self, type, shape, items):\n        assert len(shape) < 3\n        return lib.make(type, shape, items)\n"
+        text = judged(self.adapter(two), "--only", "integers", "--seconds", 0, "--json", self.folder / "r.json", status=0)
+        report = json.loads((self.folder / "r.json").read_text())["programs"][0]
+        self.assertEqual(set(report["cases"].values()), {"pass", "not supported"}, text)
+        self.assertGreater(list(report["cases"].values()).count("pass"), 10)
+        judged(self.adapter(two), "--only", "random", "--seconds", 2, "--processes", 1, status=0)
+
+    def test_operations_together(self):
+        """Findings that differ in the operation alone are shown once."""
+        wrong = "    def compare(self, name, a, b): return lib.unary('not', lib.compare(name, a, b))\n"
+        text = judged(self.adapter(wrong), "--only", "comparisons with a number", "--seconds", 0, status=1)
+        self.assertRegex(text, r"also with (\w\w, ){4}\w\w\n")
+        self.assertEqual(text.count("WRONG: comparisons with a number ("), 1)
 
     def test_expected_findings(self):
         path, known = self.adapter("    def take(self, a, index): return lib.make(a.type, (1,), [0])\n"), self.folder / "known.txt"
@@ -191,8 +257,12 @@ class Runner(InFolder):
         self.assertRegex(text, r"(?m)^feature +my$")
 
     def test_wrong_words(self):
-        for words in (["nowhere.py"], [], [self.adapter(), "--only", "zzz"], [self.adapter(), "--needs", "zzz"]):
-            self.assertEqual(main(["judge", *map(str, words)]), 3)
+        for words, said in ((["nowhere.py"], "there is no adapter nowhere.py"), ([], "name an adapter"), ([self.adapter(), "--only", "zzz"], "no case is about zzz"),
+                            ([self.adapter(), "--needs", "zzz"], "--needs does not know zzz")):
+            err = io.StringIO()
+            with contextlib.redirect_stderr(err):
+                self.assertEqual(main(["judge", *map(str, words)]), 3)
+            self.assertIn(said, err.getvalue())
 
 
 @needs_library
@@ -217,12 +287,14 @@ class NumPy(unittest.TestCase):
             self.assertIn(f"\n| {row}", page)
 
     def test_what_the_cases_say(self):
-        """A part of the cases, asked again: what differs is marked so."""
+        """All cases, asked again: each question in which NumPy differs has the reason that its case says."""
         import numpy
         if numpy.__version__ != next(case.numpy["version"] for case in ALL if case.numpy != "same"):
             self.skipTest("another version of NumPy than that of the cases")
-        for case, verdicts in by_numpy.asked(ALL[::share(11, 1)]):
+        for case, verdicts in by_numpy.asked(ALL):
             self.assertEqual(by_numpy.labelled(case, verdicts, numpy.__version__)["numpy"], case.numpy, case.id)
+            others = [verdict for verdict in verdicts if verdict.verdict not in ("pass", "not supported")]
+            self.assertLessEqual(len(set(map(by_numpy.reason, others))), 1, case.id)
 
 
 class Adapters(unittest.TestCase):

@@ -15,6 +15,7 @@ from trials.terminals import AT_PROMPT, Terminal
 
 BUILT = "crates/bench_main/out/bench_main"
 SIZE = "536870912"
+AGAIN = "run `make`, `make page`, `make machines`, then `make dist`"
 SAYS = """#!/bin/sh
 # A program that says how it was started, and which it is. GLIBC_2.34
 PATH=$PATH:/usr/bin:/bin
@@ -365,9 +366,13 @@ class Makes(InTree):
         check, dist = ["tools/make/dist.py", "--check"], self.tree / "dist/bench-x86_64-linux"
         self.assertEqual(self.told(self.run_in(check)), ["bench: dist/ is what these sources give"])
         self.assertEqual(dist.read_text(), SAYS)
-        self.assertIn("glibc 2.34", (self.tree / "dist/SUMS").read_text())
+        self.assertIn("bench-x86_64-linux needs: Linux, x86-64-v2, glibc 2.34\n", (self.tree / "dist/SOURCES").read_text())
+        wheel = next((self.tree / "dist").glob("bench_tool-*-py3-none-manylinux_2_34_x86_64.whl"))
         dist.write_text(SAYS.replace("words", "wards"))
-        self.assertEqual(self.run_in(check).stdout, "bench: dist/bench-x86_64-linux has not the sum that dist/SUMS tells\n")
+        self.assertEqual(self.run_in(check).stdout.splitlines(), [
+            "bench: dist/bench-x86_64-linux has not the sum that dist/SHA256SUMS has",
+            f"bench: dist/{wheel.name} is not what the companion and dist/ give: run `make dist`",
+            "bench: dist/ is not what these sources and this toolchain give"])
         self.make("dist")
         other = self.run_in(check, RT_KIT="another kit")
         self.assertEqual((other.returncode, other.stdout.splitlines()[0]), (0, "bench: dist/ was built by a kit, and another kit is here: the programs are not compared"))
@@ -376,13 +381,48 @@ class Makes(InTree):
         self.put(self.tree / BUILT, SAYS)
         (self.tree / "crates/elem_descr/src/lib.rt").write_text("//! Nothing!\n")
         ran = self.run_in(check)
-        self.assertEqual((ran.returncode, ran.stdout.splitlines()[0]), (1, "bench: dist/SUMS is not of these sources: run `make`, then `make dist`"))
+        self.assertEqual((ran.returncode, ran.stdout.splitlines()[0]), (1, f"bench: dist/SOURCES has not the program sources: {AGAIN}"))
         ran = self.run_in(["make", "-s", "dist"])
         self.assertEqual(ran.returncode, 2)
         self.assertIn("bench: the program is not what `make` builds of these sources: run `make`\n", ran.stderr)
 
+    def test_wheels(self):
+        """The gate refuses a wheel that is not of the companion and the files of dist/, and one that should not be there."""
+        self.make()
+        self.make("dist")
+        check = ["tools/make/dist.py", "--check"]
+        wheel = next((self.tree / "dist").glob("*.whl"))
+        (self.tree / "companion/bench_tool/more.py").write_text("")
+        self.assertEqual(self.run_in(check).stdout, f"bench: dist/{wheel.name} is not what the companion and dist/ give: run `make dist`\n")
+        (self.tree / "companion/bench_tool/more.py").unlink()
+        wheel.rename(wheel.with_name("bench_tool-0.1-py3-none-any.whl"))
+        self.assertEqual({line.split()[1] for line in self.run_in(check).stdout.splitlines()}, {f"dist/{wheel.name}", "dist/bench_tool-0.1-py3-none-any.whl"})
+        self.make("dist")
+        self.assertEqual(self.told(self.run_in(check)), ["bench: dist/ is what these sources give"])
+        self.assertEqual(list((self.tree / "dist").glob("*.whl")), [wheel])
+
+    @unittest.skipUnless(shutil.which("sha256sum"), "there is no sha256sum")
+    def test_sums(self):
+        """The lines of README check dist/ with `sha256sum`, which finds each change."""
+        self.make()
+        self.make("dist")
+        line = re.search(r"(?m)^    (\(cd dist && sha256sum .*\))", (TOP / "README.md").read_text())[1]
+        names = sorted(path.name for path in (self.tree / "dist").iterdir())
+        names.remove("SHA256SUMS")
+        self.assertEqual(self.told(self.run_in(["sh", "-c", line])), [f"{name}: OK" for name in names])
+        for name in names:
+            with open(self.tree / "dist" / name, "ab") as held:
+                held.write(b"x")
+            ran = self.run_in(["sh", "-c", line])
+            self.assertEqual((ran.returncode, f"{name}: FAILED" in ran.stdout), (1, True), name)
+
 
 class Texts(unittest.TestCase):
+    @unittest.skipUnless((TOP / "dist/SHA256SUMS").is_file() and shutil.which("sha256sum"), "dist/ has no SHA256SUMS, or there is no sha256sum")
+    def test_the_sums_of_dist(self):
+        ran = subprocess.run(["sha256sum", "-c", "--quiet", "SHA256SUMS"], cwd=TOP / "dist", capture_output=True, text=True)
+        self.assertEqual((ran.returncode, ran.stdout, ran.stderr), (0, "", ""))
+
     @needs_program
     def test_the_help_is_the_programs(self):
         said = subprocess.run([PROGRAM, "--help"], capture_output=True, text=True).stdout
@@ -395,6 +435,23 @@ class Texts(unittest.TestCase):
                            ("companion/pyproject.toml", f'version = "{version}"'), ("companion/bench_tool/__init__.py", f'__version__ = "{version}"'),
                            ("library/bench.pc", f"Version: {version}\n")):
             self.assertIn(text, (TOP / file).read_text(), file)
+
+    def test_notices(self):
+        """NOTICES has each library that is linked into dist/, with the copyright lines of its licence files, where the toolchain is."""
+        page = (TOP / "docs/NOTICES.md").read_text()
+        rows = dict(re.findall(r"(?m)^\| ([a-z_]+) \| [^|]* \| ([^|]* \| .*) \|$", page))
+        named = {name for line in (TOP / "crates.txt").read_text().splitlines()[1:] for name in line.partition(":")[2].split()}
+        named = {name for name in named if not (TOP / "crates" / name).is_dir() and f"`{name}`" not in page}
+        kit = shutil.which("rt") and pathlib.Path(shutil.which("rt")).resolve().parents[1]
+        for name in sorted(named) if kit else ():
+            named |= set(re.findall(r"(?m)^dep (\w+)$", (kit / f"rlibs/{name}.rlib/format").read_text()))
+        named = {name for name in named if f"`{name}`" not in page}
+        self.assertLessEqual(named, set(rows))
+        for name in sorted(rows) if kit else ():
+            self.assertIn(name, named)
+            texts = [path.read_text() for path in (kit / "rattle" / name).glob("LICENSE*") if "APACHE" not in path.name]
+            lines = [line for text in texts for line in re.findall(r"(?m)^Copyright .*$", text)]
+            self.assertEqual(rows[name].split(" | ")[1], "; ".join(lines) or "(no line)", name)
 
     @needs_program
     def test_an_empty_script_costs_a_shell_at_most(self):

@@ -10,7 +10,7 @@ import subprocess
 import tempfile
 import unittest
 
-from trials.companion_trials import PROGRAM, needs_compiler, needs_program, works
+from trials.companion_trials import PATIENT, PROGRAM, needs_compiler, needs_program, works
 from trials import memory
 from trials.lines import own_scripts, random_script
 from trials.runs import Part, Runner, compiled
@@ -52,10 +52,10 @@ class LittleMemory(unittest.TestCase):
     """Lines that hold little beside their arrays and their result, tried with little memory."""
 
     def last_reply(self, kilobytes, *lines):
-        limited = ["sh", "-c", f'ulimit -v {kilobytes}; exec "$@"', "sh", PROGRAM]
+        limited = ["sh", "-c", f'ulimit -v {kilobytes}; ulimit -t 15; exec "$@"', "sh", PROGRAM]
         if not works(*limited):
             self.skipTest("the program does not start with as little memory")
-        replies = subprocess.run(limited, input="\n".join(lines).encode(), capture_output=True, timeout=15).stdout
+        replies = subprocess.run(limited, input="\n".join(lines).encode(), capture_output=True, timeout=PATIENT).stdout
         return replies[replies.rindex(b"\n", 0, -1) + 1 :]
 
     def test_a_long_print_is_sent_as_it_is_made(self):

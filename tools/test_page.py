@@ -372,9 +372,9 @@ class InBrowser:
         """A script survives a reload; an example that takes its place can be taken back, by the button and by Ctrl-Z; it can be saved."""
         with tempfile.TemporaryDirectory() as folder:
             page = self.typed(self.page(folder=folder), TYPED)
-            page.ask("setTimeout(() => location.reload())")
+            page.ask("window.old = 1, setTimeout(() => location.reload())")
             time.sleep(1)
-            page.wait("document.body?.dataset.ran")
+            page.wait("!window.old && document.body?.dataset.ran")
             self.assertEqual(page.ask("script.value"), TYPED)
             for back in ("note.querySelector('button').click()", "(script.focus(), document.execCommand('undo'))"):
                 page.ask("examples.value = 'views', examples.dispatchEvent(new Event('change'))")
@@ -382,7 +382,7 @@ class InBrowser:
                 page.ask(back)
                 self.assertEqual(page.ask("script.value"), TYPED)
             page.ask("keep.click()")
-            made, end = pathlib.Path(folder, "script.bench"), time.monotonic() + 20
+            made, end = pathlib.Path(folder, "script.bench"), time.monotonic() + PATIENT
             while not (made.is_file() and made.stat().st_size) and time.monotonic() < end:
                 time.sleep(0.05)
             self.assertEqual(made.read_text(), TYPED)

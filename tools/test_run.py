@@ -208,7 +208,7 @@ class Runs(InFolder):
                 self.assertRegex(done.stderr, f"^{said}$")
 
     def test_ctrl_c_at_once(self):
-        """Ctrl-C while the tool begins ends it with status 130 and no traceback of its own. (One may come of Python itself, before it reads the tool.)"""
+        """Ctrl-C while the tool begins ends it with status 130 and no traceback of its own. (One may come of Python itself, before it runs the tool's first line.)"""
         path, rng = self.written("a = arange <i4 0 9 1\nprint a\n" * 50), random.Random(1)
         for _ in range(share(10, 100)):
             for words in (["run", path], ["--help"], ["draw", path], ["show", path]):
@@ -216,7 +216,8 @@ class Runs(InFolder):
                 time.sleep(0.02 + rng.random() * 0.25)
                 tool.send_signal(signal.SIGINT)
                 said = tool.communicate(timeout=PATIENT)[1]
-                self.assertNotIn(b"bench", said if b"Traceback" in said else b"")
+                own = re.findall(rb'File ".*(?:bench_tool/.*|bench-tool", line \d\d)', said)
+                self.assertEqual(own, [], said)
                 if b"Traceback" not in said and tool.returncode not in (0, -signal.SIGINT):  # it ended before, or before it began
                     self.assertEqual(tool.returncode, 1 if b"E28" in said else 130, said)
 
@@ -245,7 +246,7 @@ class Runs(InFolder):
             ("shell <&-", 3, closed), (f"shell <{path} >&-", 3, closed), (f"draw {path} >&-", 3, closed), ("--version >&-", 3, closed),
             (f"run {path} >&-", 3, "bench: write fault"), (f"run {path} <&-", 0, ""), (f"run {path} <&- >&- 2>&-", 3, ""),
             (f"shell <{path} >/dev/full", 3, full), (f"draw {path} >/dev/full", 3, full), ("--version >/dev/full", 3, full),
-            ("run --help >/dev/full", 3, full),
+            ("run --help >/dev/full", 3, full), ("run 2>/dev/full", 2, ""), ("zz 2>/dev/full", 2, ""), (f"draw {path} >/dev/full 2>&1", 3, ""),
         ):
             for unbuffered in ("", "1") if "full" in words else ("",):
                 with self.subTest(words, unbuffered=unbuffered):

@@ -79,6 +79,13 @@ class Calls(Folder):
             self.comes_in_order(calls, *of_the_part, Call("open", FOLDER), Call("sync", FOLDER))
             self.assertNotIn(Call("write", HIDDEN), calls[calls.index(Call("sync", HIDDEN)) :])
 
+    @needs_another_user
+    def test_the_file_has_its_group_and_its_mode_before_its_bytes(self):
+        errors.prepare(self.dir, errors.SCENARIOS[2])
+        reply, calls = self.runs.run(SAVE, self.dir)
+        self.assertEqual(reply, SAVED)
+        self.comes_in_order(calls, *[Call(kind, HIDDEN) for kind in ("open", "group", "mode-open", "write")])
+
     def test_the_folder_of_an_empty_word_is_synced_too(self):
         env = {**os.environ, "LD_PRELOAD": str(self.runs.library), "STORE_FOLDER": ".", "STORE_LOG": str(self.runs.log)}
         ran = subprocess.run([self.program, "--dir", ""], input=SAVE.encode(), capture_output=True, cwd=self.dir, env=env, timeout=PATIENT)
@@ -121,6 +128,60 @@ class Crashes(Folder):
                 self.assertTrue([told for _, _, told in crashes.crashed(before, wrong) if told])
         self.assertFalse([told for _, _, told in crashes.crashed(before, steps) if told])
 
+
+
+@needs_program
+@needs_another_user
+class Access(Folder):
+    """Nobody may do more with a file after a save than before."""
+
+    OLD_GROUP, OWN_GROUP = 54400, 54401
+    # A mode, and what is left of it where the group is refused: the group and all others have what both had.
+    MODES = [(0o640, 0o600), (0o660, 0o600), (0o664, 0o644), (0o644, 0o644), (0o666, 0o666), (0o604, 0o600), (0o646, 0o644), (0o600, 0o600),
+             (0o777, 0o777), (0o751, 0o711), (0o000, 0o000)]
+
+    def setUp(self):
+        super().setUp()
+        os.chown(self.dir, nobody()["user"], self.OWN_GROUP)
+
+    def saved(self, mode, groups):
+        """The group and the mode of the file after a save over one of another group, by a user in these groups."""
+        path = self.dir / NAME
+        path.write_bytes(b"old")
+        os.chown(path, nobody()["user"], self.OLD_GROUP)
+        path.chmod(mode)
+        who = {"user": nobody()["user"], "group": self.OWN_GROUP, "extra_groups": groups}
+        self.assertEqual(self.replies(SAVE, **who)[-1], SAVED)
+        found = os.stat(path)
+        return found.st_gid, stat.S_IMODE(found.st_mode)
+
+    def test_the_group_is_kept(self):
+        for mode, _ in self.MODES:
+            self.assertEqual(self.saved(mode, [self.OLD_GROUP]), (self.OLD_GROUP, mode), oct(mode))
+
+    def test_a_group_that_is_refused(self):
+        for mode, left in self.MODES:
+            self.assertEqual(self.saved(mode, []), (self.OWN_GROUP, left), oct(mode))
+
+    def test_other_bits_of_the_mode_go(self):
+        for groups, group, mode in (([self.OLD_GROUP], self.OLD_GROUP, 0o754), ([], self.OWN_GROUP, 0o744)):
+            self.assertEqual(self.saved(0o7754, groups), (group, mode))
+
+
+@needs_program
+@needs_compiler
+class Pipes(Folder):
+    def test_a_file_that_becomes_a_pipe_before_it_is_opened(self):
+        """It is judged by what was opened. The pipe has a writer, since the opening of one would else wait for it."""
+        runs, pipe = errors.Runs(self.program, self.folder), self.folder / "pipe"
+        (self.dir / NAME).write_bytes(NEW)
+        os.mkfifo(pipe)
+        held = os.open(pipe, os.O_RDWR)
+        self.addCleanup(os.close, held)
+        os.write(held, NEW)
+        reply, calls = runs.run('x = load "a.npy"\n', self.dir, STORE_SWAP=str(pipe))
+        self.assertEqual((reply, calls[-3:]), (FAULT, [Call("look", NAME), Call("open", NAME), Call("look-open", NAME)]))
+        self.assertEqual(os.read(held, 2 * len(NEW)), NEW)
 
 
 @needs_program

@@ -68,6 +68,23 @@ class Seen(InFolder):
                         tried += 1
         self.assertGreater(tried, 60)
 
+    def test_one_item(self):
+        """Whether NumPy makes a copy where bench makes a view: of one item, except of a record."""
+        with Session(PROGRAM, dir=self.folder) as bench:
+            bench.run(BEGIN, check=True)
+            for line, is_told in [("x = a[1]", True), ("x = m[1, -1]", True), ("x = m[1]", False), ("x = a[1:2]", False), ("x = a[None,1]", False), ("x = a[...,1]", False),
+                                  ("x = r[1]", False), ("x = a", False), ("set a[1] = 5", False), ('x = field r "x"', False)]:
+                bench.ask(line)
+                self.assertEqual(seen.one_item(bench, line), "a view of one item; in NumPy it is a copy (`copy x C`)" * is_told, line)
+
+    @unittest.skipUnless(np, "NumPy is not installed")
+    def test_one_item_of_numpy(self):
+        array, record = np.arange(6), np.zeros(3, [("x", "i4")])
+        self.assertFalse(np.shares_memory(array, array[1]))
+        self.assertTrue(np.shares_memory(array, array[..., 1]))
+        record[1]["x"] = 5
+        self.assertEqual(record["x"].tolist(), [0, 5, 0])
+
     def test_run_explains(self):
         script = self.folder / "script.bench"
         script.write_text("\n".join([*BEGIN, "row = m[1]", "c = copy m C", "set row[2] = 5", "upd c[0] add 1", "set m[0,0] = 1", "set a[:0] = 1", "set a[99] = 1"]) + "\n")

@@ -25,6 +25,7 @@ except ImportError:
 
 PYTHONS = [sys.executable, *share([], [f"python3.{minor}" for minor in range(9, 15)])]
 INSTALL = ["-m", "pip", "install", "-q", "--no-index", "--disable-pip-version-check"]
+PASTED = re.search(r"(?m)^\| .*`(pip install dist/[^`]*)`", (TOP / "README.md").read_text())[1]
 EXAMPLE = re.search(r"```python\n(import bench_tool, numpy\n.*?)```", (TOP / "README.md").read_text(), re.S)[1]
 WHAT = "import bench_tool; bench = bench_tool.Session(); print(bench.ask('a = zeros <i4 (2)'), bench._inside is not None, bench_tool.session.find_program())"
 # As far as the user's own settings go, nothing is set.
@@ -134,15 +135,24 @@ class Installed(unittest.TestCase):
         return told.split()[-1]
 
     def test_wheel(self):
-        self.bin = self.installed(self.folder / "venv", made(self.folder))
-        for part in (self.commands, self.by_the_program, self.example_of_the_readme, self.as_pipx_does, self.goes_again):
+        """The line of README installs the wheel for this machine."""
+        (self.folder / "dist").mkdir()
+        wheel = made(self.folder / "dist")
+        shutil.copy(wheel, str(wheel).replace("x86_64", "another"))
+        subprocess.run([sys.executable, "-m", "venv", self.folder / "venv"], check=True, env=ENVIRONMENT)
+        self.bin = self.folder / "venv/bin"
+        env = {**ENVIRONMENT, "PATH": f"{self.bin}:/usr/bin:/bin", "PIP_NO_INDEX": "1", "PIP_DISABLE_PIP_VERSION_CHECK": "1"}
+        subprocess.run(["sh", "-c", PASTED], cwd=self.folder, check=True, env=env, stdout=subprocess.DEVNULL)
+        for part in (self.commands, self.commands_with_files, self.by_the_program, self.example_of_the_readme, self.as_pipx_does, self.goes_again):
             with self.subTest(part.__name__):
                 part()
 
     def commands(self):
-        """Each command of bench-tool."""
+        """Each command of bench-tool that reads scripts."""
         tool = self.bin / "bench-tool"
         self.assertTrue(self.answers(self.bin).startswith(str(self.folder)))
+        listed = re.search(r"\{([\w,]+)\}|COMMAND\n((?:    .*\n)+)", self.ran(tool, "--help")[1])
+        self.assertEqual(re.findall(r"(?m)^    (\w+) ", listed[2]), ["shell", "run", "show", "pack", "unpack", "draw", "judge"])
         status, told, said = self.ran(tool, "run", "--summary", "-", given='a = arange <i4 0 6 1\nb = a[6]\nsave a "a.npy"\n')
         self.assertEqual((status, told), (1, "ok a <i4 (6,) new\nno E11 index out of range\nok save 152\n"))
         self.assertIn("-:2: E11 index out of range: b = a[6]\n-:2: note: axis 0 of a has length 6", said)
@@ -158,10 +168,25 @@ class Installed(unittest.TestCase):
         if shutil.which("node", path="/usr/bin:/bin"):
             self.assertIn("<svg", self.ran(tool, "draw", TOP / "examples/mirrored.bench", "--line", "3", "--svg")[1])
 
+    def commands_with_files(self):
+        """Each command of bench-tool that has files, and the judge, with the cases of the wheel."""
+        tool, raw = self.bin / "bench-tool", self.folder / "raw.bin"
+        raw.write_bytes(bytes(range(6)))
+        self.assertEqual(self.ran(tool, "pack", "raw.bin", "|u1", "(2,3)", "-o", "b.npy")[::2], (0, ""))
+        self.assertTrue((self.folder / "b.npy").read_bytes().endswith(b"\n" + bytes(range(6))))
+        self.assertEqual(self.ran(tool, "show", "b.npy")[1].splitlines()[-2:], ["[[0 1 2]", " [3 4 5]]"])
+        self.assertEqual(self.ran(tool, "unpack", "b.npy", "-o", "c.bin")[::2], (0, ""))
+        self.assertEqual((self.folder / "c.bin").read_bytes(), bytes(range(6)))
+        status, told, said = self.ran(tool, "judge", TOP / "tools/trials/planted_adapter.py", "--only", "slices/0001")
+        self.assertEqual((status, said), (0, ""))
+        self.assertIn("0 findings that are wrong or deadly", told)
+
     def by_the_program(self):
         """Where the library cannot be loaded, a session is the program."""
         status, told, said = self.ran(self.bin / "python", "-c", WHAT, BENCH_LIBRARY="")
         self.assertEqual((status, told.split()[:6], said), (0, ["ok", "a", "<i4", "(2,)", "new", "False"], ""))
+        for words, given in (("run", TOP / "examples/mirrored.bench"), ""), (("shell",), "names\n"), (("show", "b.npy"), ""), (("draw", TOP / "examples/mirrored.bench"), ""):
+            self.assertEqual(self.ran(self.bin / "bench-tool", *words, given=given, BENCH_LIBRARY="")[::2], (0, ""), words)
 
     def example_of_the_readme(self):
         """With the NumPy that runs this test, where there is one."""

@@ -20,6 +20,7 @@ from pathlib import Path
 from typing import TYPE_CHECKING, Any, Callable, Iterable, Iterator, Mapping, NamedTuple, Optional, Union
 
 from . import library, session
+from .drawing import Drawing, Log
 from .session import ENDS, MARKER, BenchError, Line, Named, ProgramEnded, Refused, Reply, reply_of, sent_of
 
 if TYPE_CHECKING:
@@ -104,6 +105,12 @@ class Files(Mapping[str, bytes]):
     def __len__(self) -> int:
         return sum(1 for _ in self)
 
+    def size(self, name: str) -> int:
+        """The length of a file in bytes, 0 if there is no such file."""
+        if isinstance(self._place, Path):
+            return (self._place / name).stat().st_size if (self._place / name).is_file() else 0
+        return self._place.size(name.encode()) or 0
+
 
 class Session(session.Session):
     """A bench, open until `close`. It runs in this process if libbench can be loaded, and otherwise, or if a program or a folder is
@@ -124,10 +131,11 @@ class Session(session.Session):
         if not 0 <= undo <= 64:
             raise ValueError("undo must be from 0 to 64")
         held = library.loaded() if program is None and dir is None else None
+        self._log, self._undo = Log(), undo
         self._inside: Optional[library.Handle] = None
         self._folder: Optional[tempfile.TemporaryDirectory[str]] = None
         if held is not None:
-            self._inside, self.program = library.Handle(held, undo), "the bench"
+            self._inside, self.program, self.dir = library.Handle(held, undo), "the bench", "."
             self._status = None
             self.files = Files(self._inside)
             return
@@ -149,8 +157,11 @@ class Session(session.Session):
         Reply(accepted=False, code='E06', meaning='unknown name', text='no E06 unknown name')
         """
         if self._inside is None:
-            return super().send(line, take)
+            reply = super().send(line, take)
+            self._note(line, reply.text)
+            return reply
         reply = reply_of(self._answered(sent_of(line)))
+        self._note(line, reply.text)
         if take is None or not reply.text:
             return reply
         take(reply.text.encode() + b"\n")
@@ -181,8 +192,13 @@ class Session(session.Session):
         """
         sent = list(map(sent_of, _split(lines)))
         if self._inside is None:
-            return self._batch(sent)
-        return [self._answered(line).decode("ascii", "replace") for line in sent]
+            replies = self._batch(sent)
+            if any(text.startswith("ok save") for text in replies):
+                self._log.drop("files were saved in a batch")
+            for line, text in zip(sent, replies):
+                self._note(line, text)
+            return replies
+        return [self._note(line, self._answered(line).decode("ascii", "replace")) for line in sent]
 
     def names(self) -> list[str]:
         """The names that are bound, in the order in which they were first bound.
@@ -258,6 +274,35 @@ class Session(session.Session):
         finally:
             self._clear()
 
+    def __getitem__(self, name: str) -> "numpy.ndarray[Any, Any]":
+        """As `get`, with `KeyError` if the name is not bound."""
+        try:
+            return self.get(name)
+        except Refused as refused:
+            if refused.code == "E06":
+                raise KeyError(name) from None
+            raise
+
+    def __setitem__(self, name: str, array: Any) -> None:
+        """As `put`."""
+        self.put(name, array)
+
+    def __contains__(self, name: object) -> bool:
+        return name in self.names()
+
+    def __iter__(self) -> Iterator[str]:
+        return iter(self.names())
+
+    def draw(self, line: str = "") -> Drawing:
+        """The picture of the last line that has changed something, which notebooks show; with `line`, of what that line shows or would
+        do. The lines of the session are run again for it, by the page's program.
+
+        >>> with Session() as bench:
+        ...     bench.run("a = arange <i4 0 6 1\\nset a[1:] = a[:-1]") and bench.draw()
+        <picture of `set a[1:] = a[:-1]`>
+        """
+        return Drawing(self._log, line, self._undo)
+
     def kill(self) -> None:
         """Kills the program. Another thread may call it. In the process there is nothing to kill."""
         if self._inside is None:
@@ -281,6 +326,12 @@ class Session(session.Session):
     def _check_open(self) -> None:
         if self._status is not None:
             raise ProgramEnded(self.program, self._status)
+
+    def _note(self, line: Line, text: str) -> str:
+        """Keeps a line for pictures if it has changed something, and returns its reply."""
+        if text.startswith("ok ") and not text.startswith("ok save"):
+            self._log.note(line if isinstance(line, str) else bytes(line).decode(), self.files, EXCHANGE)
+        return text
 
     def _answered(self, line: bytes) -> bytes:
         """The reply of the library."""

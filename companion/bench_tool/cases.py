@@ -52,6 +52,12 @@ class Question:
         """The steps as lines of bench."""
         return tuple(map(str, self.commands))
 
+    @property
+    def axes(self) -> int:
+        """The most axes of an array that a step makes, or that a name shows in the end."""
+        made = [getattr(command, "shape", ()) for command in self.commands]
+        return max(map(len, [*made, *(shown.shape for shown in self.want.values())]), default=0)
+
     def plain(self, **more: Any) -> dict[str, Any]:
         """The question as it is sent to an adapter."""
         files = {name: data.hex() for name, data in self.files.items()}

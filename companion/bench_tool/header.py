@@ -7,14 +7,13 @@ from math import prod
 from typing import Any, BinaryIO, NamedTuple, Optional
 
 from . import item_types
+from .numpy_rules import NO_KIND
 from .terminal import printable
 
 MAGIC = b"\x93NUMPY"
 MOST = 1 << 20  # bytes of a header that is looked at
 MOST_ITEMS, MOST_AXES = 1 << 24, 64
 KEYS = ("descr", "fortran_order", "shape")
-NO_KIND = {"f": "floats", "c": "complex numbers", "m": "time spans", "M": "dates", "U": "Unicode strings", "O": "Python objects",
-           "V": "plain bytes"}
 
 
 def quoted(value: Any, most: int) -> str:

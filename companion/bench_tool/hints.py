@@ -18,9 +18,9 @@ from . import language
 from .grammar import Part, Reading, reserved
 from .session import Array, BenchError, Reply, Session
 from .terminal import printable, say
-from .numpy_rules import TYPES
-from .seen import seen_by
-from .translate import FLOATS, translated
+from .numpy_rules import NO_KIND, TYPES
+from .seen import one_item, seen_by
+from .translate import translated
 from .trials import Trial, like
 
 SECONDS, MOST_SECONDS = 0.05, 3600  # for one hint: by default, and at most
@@ -53,8 +53,8 @@ class Hints(AbstractContextManager["Hints"]):
     """The hints for the refused lines of a session. They are guests of the commands that ask for them: whatever goes wrong here, there
     is only no hint."""
 
-    def __init__(self, session: Session, seconds: float = 0):
-        self.session, self.seconds = session, seconds or seconds_of_a_hint()
+    def __init__(self, session: Session, seconds: float = 0, program: Callable[[], str] = lambda: ""):
+        self.session, self.seconds, self._program = session, seconds or seconds_of_a_hint(), program
         self._end, self._folder, self._held = 0.0, "", ExitStack()
         self._spare: Optional[Trial] = None
         self.offered: list[str] = []  # the lines of the last hint
@@ -65,7 +65,7 @@ class Hints(AbstractContextManager["Hints"]):
     def _start(self) -> None:
         """Starts a second session, without waiting for it."""
         self._spare = None
-        self._spare = spare = Trial(self.session.program, self._folder, self.session.dir)
+        self._spare = spare = Trial(self._program() or self.session.program, self._folder, self.session.dir)
         self._held.callback(spare.close)
         self._held.callback(spare.kill)
 
@@ -99,6 +99,12 @@ class Hints(AbstractContextManager["Hints"]):
                 return seen_by(self.session, line)
             with self._trial(index) as trial:
                 return seen_by(self.session, line, trial)
+        return ""
+
+    def one_item(self, line: str) -> str:
+        """What differs from NumPy after an accepted line that binds a name to one item. It raises nothing."""
+        with suppress(Exception):
+            return one_item(self.session, line)
         return ""
 
     def _said(self, line: str, reply: Reply) -> list[str]:
@@ -252,7 +258,10 @@ class Numbers:
 
     def _e05(self) -> str:
         kind = self.text["D"]
-        return f"write {TYPES[kind]} instead of {kind}" if kind in TYPES else "there are no floats" * bool(FLOATS.match(kind))
+        if kind in TYPES:
+            return f"write {TYPES[kind]} instead of {kind}"
+        what = NO_KIND.get(kind.lstrip("<>|=")[:1], "")
+        return f"the type is not supported: there are no {what}" if what else ""
 
     def _e09(self) -> str:
         lengths = list(map(int, re.findall(r"\d+", self.text.get("S") or self.text["S-"])))

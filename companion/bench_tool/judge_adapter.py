@@ -47,7 +47,8 @@ def hello(adapter: Any) -> dict[str, Any]:
     has: Any = getattr(adapter, "HAS", needs.ALL)
     words = has.split() if isinstance(has, str) else list(has)
     unknown = sorted(set(words) - needs.ALL)
-    return {"has": sorted(set(words) & needs.ALL), "can": [name for name in METHODS if hasattr(adapter, name)], "unknown": unknown}
+    told = {"has": sorted(set(words) & needs.ALL), "can": [name for name in METHODS if hasattr(adapter, name)], "unknown": unknown}
+    return {**told, "most_axes": getattr(adapter, "MOST_AXES", None)}
 
 
 def plain(value: Any) -> Any:

@@ -14,7 +14,7 @@ from .commands import Operand
 from .judge_adapter import COMPARISONS
 from .judge_oracle import Oracle
 from .judge_random import Scripts
-from .judge_runs import MOST_REPLAYED, SLOW, Died, Program, Worker, again, culprit
+from .judge_runs import MOST_REPLAYED, SLOW, Answer, Died, Program, Worker, again, culprit
 from .judge_shrink import shrunk
 from .judge_verdicts import DIES, PASS, UNSUPPORTED, Verdict, judged, traits, worst
 
@@ -22,6 +22,7 @@ MOST_DEATHS = 12  # of one feature, after which the rest of it is not asked
 MOST_DEATHS_OF_CASE = 3
 MOST_CAUSES = 40  # of random scripts
 BATCH = 25  # cases that a process takes at a time
+RANDOM_ID = "random/"  # the ids of random scripts begin so
 # The methods of an adapter that a command calls, if they are not called as the command.
 CALLS = {"zeros": "make", "full": "make", "arange": "make", "array": "make", "set": "put", "upd": "update"}
 
@@ -52,6 +53,15 @@ class Results:
             if verdict.verdict not in (PASS, UNSUPPORTED):
                 self.found.setdefault(verdict.cause(), []).append(verdict)
 
+    def blame(self, verdict: Verdict) -> None:
+        """Takes in that a program died of a question that had an answer."""
+        case, feature = verdict.question.id.split(":")[0], verdict.question.feature
+        if before := self.of_case.get(case):
+            self.table[feature][before] -= 1
+            self.table[feature][DIES] += 1
+            self.of_case[case] = DIES
+        self.found.setdefault(verdict.cause(), []).append(verdict)
+
     def kinds(self) -> set[tuple[str, ...]]:
         """The causes without their features, by which random findings are known."""
         return {(cause[0], *cause[2:]) for cause in self.found}
@@ -79,39 +89,52 @@ class Asker:
 
     def __init__(self, program: Program):
         self.worker = Worker(program)
-        self.asked: list[Mapping[str, Any]] = []
+        self.asked: list[tuple[Question, Mapping[str, Any]]] = []
+        self.late: list[Verdict] = []  # on questions of which the program died only later
 
     def verdict(self, question: Question, wants: Optional[Sequence[Any]] = None) -> Verdict:
         """The verdict on a question; with `wants`, what names show is compared after each step."""
         plain = question.plain(**({"each": True} if wants else {}))
-        self.asked = [*self.asked[1 - MOST_REPLAYED:], plain]
+        self.asked = [*self.asked[1 - MOST_REPLAYED:], (question, plain)]
         answer = self.worker.ask(plain)
         if isinstance(answer, Died) and answer.how.startswith(SLOW):
             answer = again(self.worker.program, plain)
             self.asked = []
         elif isinstance(answer, Died):
-            return judged(question, self.blamed(plain))
+            answer = self.blamed(plain, answer)
         return judged(question, answer, wants)
 
     def alone(self, question: Question) -> Verdict:
         """The verdict on a question that is blamed itself if the program dies."""
         return judged(question, self.worker.ask(question.plain()))
 
-    def blamed(self, plain: Mapping[str, Any]) -> Died:
-        """How the program died, and of which question if it was an earlier one."""
-        number, died = culprit(self.worker.program, self.asked)
-        blamed, self.asked = self.asked[number], []
-        return died if blamed is plain else died._replace(how=f"{died.how}, after {blamed['id']}")
+    def to_its_end(self, question: Question) -> Verdict:
+        """The verdict on a question that is asked in a process of its own, which then has to end well."""
+        worker = Worker(self.worker.program)
+        try:
+            answer = worker.ask(question.plain())
+            return judged(question, answer if isinstance(answer, Died) else worker.ended() or answer)
+        finally:
+            worker.close()
+
+    def blamed(self, plain: Mapping[str, Any], answer: Answer) -> Answer:
+        """The answer to a question at which a program died: how it died, or, if an earlier question is to blame, what a new process answers."""
+        asked, self.asked = self.asked, []
+        number, died = culprit(self.worker.program, [each for _, each in asked])
+        if number == len(asked) - 1:
+            return died
+        self.late.append(judged(asked[number][0], died))
+        return again(self.worker.program, plain)
 
     def case(self, case: Case, questions: Sequence[Question]) -> list[Verdict]:
         """The verdicts on a case. After some deaths, the rest of a table is not asked."""
         types = cases.types_for(case, self.worker.has)
         if types is None or not methods_of(questions[0]) <= set(self.worker.can):
             return [Verdict(UNSUPPORTED, questions[0], f"it lacks {', '.join(sorted(case.needs - self.worker.has))}")]
-        found: list[Verdict] = []
-        for question in questions:
+        found = [Verdict(UNSUPPORTED, question, f"it has arrays of {self.worker.most_axes} axes") for question in questions if question.axes > self.worker.most_axes]
+        for question in (each for each in questions if each.axes <= self.worker.most_axes):
             found.append(self.verdict(question.retyped(types) if types else question))
-            if sum(verdict.verdict == DIES for verdict in found) >= MOST_DEATHS_OF_CASE or found[-1].verdict == UNSUPPORTED:
+            if sum(verdict.verdict == DIES for verdict in found) >= MOST_DEATHS_OF_CASE:
                 break
         return found
 
@@ -159,9 +182,12 @@ def ask_cases(results: Results, chosen: Sequence[Case], processes: int, told: Ca
                     if deaths[case.feature] < MOST_DEATHS:
                         found = asker.case(case, list(case.questions()))
                         with lock:
-                            deaths[case.feature] += sum(verdict.verdict == DIES for verdict in found)
                             results.add(case, found)
+                            for late in asker.late:
+                                results.blame(late)
+                            deaths.update(verdict.question.feature for verdict in (*found, *asker.late) if verdict.verdict == DIES)
                             told()
+                        asker.late.clear()
         finally:
             asker.close()
 
@@ -173,35 +199,65 @@ def ask_cases(results: Results, chosen: Sequence[Case], processes: int, told: Ca
 
 
 def ask_scripts(results: Results, seed: int, seconds: float, processes: int, told: Callable[[], None]) -> None:
-    """Asks a program random scripts for so many seconds. Each cause is told once, with the smallest script that shows it."""
-    until, lock, raw = time.monotonic() + seconds, threading.Lock(), results.kinds()
-    most = len(raw) + MOST_CAUSES
+    """Asks a program random scripts for so many seconds after it has begun."""
+    search = Search(results, seconds)
 
     def serve(number: int) -> None:
         asker = Asker(results.program)
         try:
             results.meet(asker.worker)
-            scripts, other = Scripts(Random(f"{seed} {number}"), asker.worker.has, asker.worker.can), Oracle()
-            count = 0
-            while time.monotonic() < until and len(raw) < most:
-                question = scripts.question(f"random/{seed}.{number}.{count}")
+            search.begin()
+            worker, other, count = asker.worker, Oracle(), 0
+            scripts = Scripts(Random(f"{seed} {number}"), worker.has, worker.can, worker.most_axes)
+            while search.goes_on():
+                question = scripts.question(f"{RANDOM_ID}{seed}.{number}.{count}")
                 count += 1
                 verdict = asker.verdict(question, [step.shown for step in scripts.steps])
-                with lock:
+                search.met(verdict, asker.alone, other)
+                for late in asker.late:
+                    search.met(late, asker.to_its_end, other)
+                asker.late.clear()
+                with search.lock:
                     results.scripts += 1
-                    kind = verdict.verdict, traits(verdict.question, verdict.command), verdict.what
-                    is_new = verdict.verdict not in (PASS, UNSUPPORTED) and kind not in raw
-                    if is_new:
-                        raw.add(kind)
                     told()
-                if is_new:
-                    least = shrunk(verdict, asker.alone, asker.worker.has, other)
-                    with lock:
-                        kind = least.verdict, traits(least.question, least.command), least.what
-                        if kind not in results.kinds():
-                            results.found.setdefault(least.cause(), []).append(least)
-                        raw.add(kind)
         finally:
             asker.close()
 
     in_threads(processes, serve)
+
+
+class Search:
+    """The findings of random scripts. Each cause is told once, with the smallest script that shows it."""
+
+    def __init__(self, results: Results, seconds: float):
+        self.results, self.seconds, self.until, self.lock = results, seconds, 0.0, threading.Lock()
+        self.kinds = results.kinds()
+        self.most = len(self.kinds) + MOST_CAUSES
+
+    def begin(self) -> None:
+        """The time runs once the first process has begun."""
+        with self.lock:
+            self.until = self.until or time.monotonic() + self.seconds
+
+    def goes_on(self) -> bool:
+        return time.monotonic() < self.until and len(self.kinds) < self.most
+
+    def is_new(self, verdict: Verdict) -> bool:
+        """Whether a verdict is a finding of a kind that was not met; it counts as met from then on."""
+        kind = verdict.verdict, traits(verdict.question, verdict.command), verdict.what
+        with self.lock:
+            if verdict.verdict in (PASS, UNSUPPORTED) or kind in self.kinds:
+                return False
+            self.kinds.add(kind)
+            return True
+
+    def met(self, verdict: Verdict, ask: Callable[[Question], Verdict], oracle: Oracle) -> None:
+        """Keeps a finding of a new kind, as the smallest script that shows it."""
+        if not self.is_new(verdict):
+            return
+        least = shrunk(verdict, ask, self.results.has, oracle)
+        kind = least.verdict, traits(least.question, least.command), least.what
+        with self.lock:
+            self.kinds.add(kind)
+            if kind not in self.results.kinds():
+                self.results.found.setdefault(least.cause(), []).append(least)

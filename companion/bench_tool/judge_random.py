@@ -31,8 +31,8 @@ def limits(type_: str) -> tuple[int, int]:
 class Scripts:
     """Makes scripts of what a library has and can."""
 
-    def __init__(self, rng: Random, has: Collection[str], can: Collection[str]):
-        self.rng, self.has, self.can = rng, frozenset(has), set(can)
+    def __init__(self, rng: Random, has: Collection[str], can: Collection[str], most_axes: int = needs.MOST_AXES):
+        self.rng, self.has, self.can, self.most_axes = rng, frozenset(has), set(can), most_axes
         self.oracle = Oracle(undo=1)
         self.types = [f"{'|' if word[1] == '1' else '<'}{word}" for word in needs.TYPES if word in self.has]
         self.types += [type_.replace("<", ">") for type_ in self.types if type_[0] == "<" and "big_endian" in self.has]
@@ -63,8 +63,8 @@ class Scripts:
         step = self.oracle.step(command)
         if step.code in OWN_REFUSALS or step.code and self.chance(0.3):
             return False
-        size = math.prod(step.shown[command.binds].shape) if command.binds and not step.code else 0
-        if not step.needs <= self.has or size > MOST_ITEMS:
+        shape = step.shown[command.binds].shape if command.binds and not step.code else ()
+        if not step.needs <= self.has or math.prod(shape) > MOST_ITEMS or len(shape) > self.most_axes:
             if not step.code:
                 self.oracle.back(*kept)
             return False
@@ -90,7 +90,7 @@ class Scripts:
 
     def lengths(self) -> tuple[int, ...]:
         """A shape."""
-        rank = self.rng.choice((0, 1, 1, 1, 2, 2, 2, 3))
+        rank = min(self.most_axes, self.rng.choice((0, 1, 1, 1, 2, 2, 2, 3)))
         return tuple(self.rng.choice((0, 1, 1, 2, 2, 3, 3, 4) if self.chance(0.5) else (2, 3, 4, 5)) for _ in range(rank))
 
     def number(self, type_: str) -> int:

@@ -11,6 +11,8 @@ from typing import Any, Iterator, Mapping, Sequence
 from xml.sax.saxutils import quoteattr
 
 from . import page
+from .judge_asking import RANDOM_ID
+from .judge_shrink import is_small, size_of
 from .judge_verdicts import BAD, PASS, UNSUPPORTED, VERDICTS, Verdict
 from .terminal import printable
 
@@ -31,11 +33,19 @@ class Finding:
         """What an `--expect` file calls it."""
         return f"{self.first.verdict}: {' | '.join(self.first.cause()[1:])}"
 
+    @property
+    def large(self) -> str:
+        """How large a random script is that could not be made small, or nothing."""
+        if not self.first.question.id.startswith(RANDOM_ID) or is_small(self.first.question.commands):
+            return ""
+        steps, items = size_of(self.first.question.commands)
+        return f"not made smaller than {steps} steps and {items} items"
+
     def to_json(self) -> dict[str, Any]:
         first = self.first
         return {"verdict": first.verdict, "feature": first.question.feature, "case": first.question.id, "name": self.name, "count": self.count,
                 "lines": list(first.question.lines), "calls": self.calls, "step": first.step, "array": first.name, "what": first.what,
-                "got": first.got, "right": first.right, "link": link(first)}
+                "got": first.got, "right": first.right, "large": self.large, "link": link(first)}
 
 
 def link(found: Verdict) -> str:
@@ -79,17 +89,29 @@ def table_text(names: Sequence[str], tables: Sequence[Mapping[str, Mapping[str, 
     return "\n".join([made[0], "-" * len(made[0]), *made[1:]])
 
 
-def finding_text(finding: Finding) -> str:
-    """A finding for people: the steps, the calls, what was got and what is right."""
+def families(findings: Sequence[Finding]) -> list[list[Finding]]:
+    """The findings, those that differ in the operation alone together."""
+    found: dict[tuple[str, ...], list[Finding]] = {}
+    for finding in findings:
+        found.setdefault(finding.first.family(), []).append(finding)
+    return list(found.values())
+
+
+def finding_text(finding: Finding, others: Sequence[Finding] = ()) -> str:
+    """A finding for people: the steps, the calls, what was got and what is right, and with which operations it was found as well."""
     first = finding.first
     many = f" ({finding.count} times)" if finding.count > 1 else ""
     parts = [f"{first.verdict.upper()}: {first.question.feature}{many}, {first.question.id}"]
     parts += [f"    {line}" for line in first.question.lines]
     if finding.calls:
         parts += ["  as calls:", *(f"    {printable(call, 200)}" for call in finding.calls)]
-    parts += [f"  got    {(first.name + ' = ') * bool(first.name)}{printable(first.got, 600)}", f"  right  {printable(first.right or 'an answer', 600)}"]
+    parts += [f"  got    {(first.name + ' = ') * bool(first.name)}{printable(first.got, 600)}", f"  right  {printable(first.right, 600)}"]
     if first.what and first.verdict == "wrong":
         parts.append(f"  differs in {first.what}")
+    if others:
+        parts.append(f"  also with {', '.join(getattr(other.first.command, 'operation') for other in others)}")
+    if finding.large:
+        parts.append(f"  {finding.large}")
     found = link(first)
     return "\n".join(parts + [f"  {found}"] * bool(found))
 
@@ -132,8 +154,8 @@ def html_text(names: Sequence[str], tables: Sequence[Mapping[str, Mapping[str, i
     parts.append(f"<table><tr><th>feature</th>{head}</tr>{body}</table>")
     for name, found in zip(names, findings):
         parts.append(f"<h2>{html.escape(name)}</h2>")
-        for finding in found:
+        for finding, *others in families(found):
             place = link(finding.first)
             drawn = f'<p><a href="{html.escape(place)}">draw it</a></p>' * bool(place)
-            parts.append(f'<h3 class="{finding.first.verdict}">{html.escape(finding.name)}</h3><pre>{html.escape(finding_text(finding))}</pre>{drawn}')
+            parts.append(f'<h3 class="{finding.first.verdict}">{html.escape(finding.name)}</h3><pre>{html.escape(finding_text(finding, others))}</pre>{drawn}')
     return "".join(parts) + "</html>\n"

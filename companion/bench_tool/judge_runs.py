@@ -92,6 +92,7 @@ class Worker:
         self.has: frozenset[str] = frozenset()
         self.can: tuple[str, ...] = ()
         self.unknown: list[str] = []
+        self.most_axes = needs.MOST_AXES
         try:
             self.start()
         except BenchError:
@@ -119,6 +120,7 @@ class Worker:
             told = json.loads(line)
             has, can = told.get("has", sorted(needs.ALL)), told.get("can", METHODS)
             self.has, self.can, self.unknown = frozenset(has), tuple(can), list(told.get("unknown", set(has) - needs.ALL))
+            self.most_axes = needs.MOST_AXES if told.get("most_axes") is None else int(told["most_axes"])
         except (AttributeError, TypeError, ValueError):
             raise BenchError(f"{self.program.name}: its first line is not what it has and can: {line[:200]!r}") from None
 
@@ -141,6 +143,16 @@ class Worker:
             self._end()
             return Died("an answer that is not JSON", repr(line[:200]))
         return answer
+
+    def ended(self) -> Optional[Died]:
+        """Has the program end by itself. How it died, if it did."""
+        assert self._process is not None and self._process.stdin is not None
+        self._process.stdin.close()
+        try:
+            is_well = self._process.wait(PATIENCE) >= 0
+        except subprocess.TimeoutExpired:
+            is_well = True
+        return None if is_well else Died(self._ending(), self._said())
 
     def close(self) -> None:
         """Ends the program."""

@@ -1,36 +1,52 @@
 """The smallest script that still shows a finding: fewer steps, smaller arrays, plainer values and index lists."""
 from __future__ import annotations
 
+import math
 import time
 from dataclasses import replace
 from typing import Any, Callable, Iterator, Optional, Sequence
 
 from .cases import Question
-from .commands import Command, NewArray, Operand, Slice
-from .judge_oracle import OWN_REFUSALS, Oracle, question_of
-from .judge_verdicts import Verdict
+from .commands import Broadcast, Command, NewArray, Operand, Reshape, Slice, Transpose
+from .judge_oracle import OWN_REFUSALS, Oracle, Step, question_of
+from .judge_verdicts import DIES, Verdict
 from .needs import SIDES
 
-SECONDS = 8.0  # for one finding
+MOST_STEPS, MOST_ITEMS = 6, 12  # of a finding that is small
+SECONDS, MOST_SECONDS = 8.0, 24.0  # for a finding that is small, and for one that is not yet
+PLAIN_TYPES = ("<i4", "<i8", "|b1")
 Asked = Callable[[Question], Verdict]
 Commands = Sequence[Command]
+
+
+def size_of(commands: Commands) -> tuple[int, int]:
+    """The steps of a script, and the items of the arrays that it makes."""
+    return len(commands), sum(len(command.values) for command in commands if isinstance(command, NewArray))
+
+
+def is_small(commands: Commands) -> bool:
+    steps, items = size_of(commands)
+    return steps <= MOST_STEPS and items <= MOST_ITEMS
 
 
 def without(items: Sequence[Any], at: int) -> tuple[Any, ...]:
     return (*items[:at], *items[at + 1:])
 
 
+def shorter(command: NewArray, axis: int, place: int) -> NewArray:
+    """The array without a place of an axis."""
+    length, inner = command.shape[axis], math.prod(command.shape[axis + 1:])
+    kept = tuple(value for at, value in enumerate(command.values) if at // inner % length != place)
+    return replace(command, shape=(*command.shape[:axis], length - 1, *command.shape[axis + 1:]), values=kept)
+
+
 def smaller_arrays(command: NewArray) -> Iterator[Command]:
-    """The array with an axis one shorter, without an axis of length 1, and with plainer values."""
+    """The array with an axis one shorter, without an axis of length 1, and with a plainer type and plainer values."""
     for axis, length in enumerate(command.shape):
-        if length:
-            inner = 1
-            for each in command.shape[axis + 1:]:
-                inner *= each
-            kept = tuple(value for place, value in enumerate(command.values) if place // inner % length != length - 1)
-            yield replace(command, shape=(*command.shape[:axis], length - 1, *command.shape[axis + 1:]), values=kept)
+        yield from (shorter(command, axis, place) for place in reversed(range(length)))
         if length == 1:
             yield replace(command, shape=without(command.shape, axis))
+    yield from (replace(command, type=type_) for type_ in PLAIN_TYPES[:2] if command.type not in PLAIN_TYPES)
     if command.type[1] in "iu" and command.values:
         plain = tuple(range(min(len(command.values), 128))) + (0,) * (len(command.values) - 128)
         if command.values not in (plain, (0,) * len(plain)):
@@ -39,6 +55,29 @@ def smaller_arrays(command: NewArray) -> Iterator[Command]:
     for at, value in enumerate(command.values):
         if command.type[1] in "iu" and len(command.values) < 13 and value not in (0, 1):
             yield replace(command, values=(*command.values[:at], 0, *command.values[at + 1:]))
+
+
+def shorter_together(commands: Commands) -> Iterator[Commands]:
+    """Scripts in which several arrays are shorter: all lack the last place of their first axis, or of their last, or all that have an axis of
+    some length lack a place of it."""
+    arrays = [command for command in commands if isinstance(command, NewArray) and command.values and command.shape]
+    found = [{array: (axis, array.shape[axis] - 1) for array in arrays for axis in [at % len(array.shape)]} for at in (0, -1)]
+    lengths = sorted({length for array in arrays for length in array.shape if length > 1}, reverse=True)
+    found += [{array: (array.shape.index(length), place) for array in arrays if length in array.shape} for length in lengths for place in reversed(range(length))]
+    for cut in found:
+        yield tuple(shorter(each, *cut[each]) if isinstance(each, NewArray) and each in cut else each for each in commands)
+
+
+def plainer_shapes(command: Command) -> Iterator[Command]:
+    """A transpose that reverses the axes, a reshape to a length that follows from the others, a broadcast to a smaller shape."""
+    if isinstance(command, Transpose) and command.axes is not None:
+        yield replace(command, axes=None)
+    elif isinstance(command, Reshape) and -1 not in command.shape:
+        yield from (replace(command, shape=(*command.shape[:axis], -1, *command.shape[axis + 1:])) for axis in range(len(command.shape)))
+    elif isinstance(command, Broadcast) and command.shape:
+        yield replace(command, shape=command.shape[1:])
+        yield from (replace(command, shape=(*command.shape[:axis], length - 1, *command.shape[axis + 1:]))
+                    for axis, length in enumerate(command.shape) if length > 1)
 
 
 def plainer_entries(entry: Any) -> Iterator[Any]:
@@ -69,6 +108,7 @@ def plainer(command: Command) -> Iterator[Command]:
     """Plainer commands in the place of one."""
     if isinstance(command, NewArray):
         yield from smaller_arrays(command)
+    yield from plainer_shapes(command)
     index = getattr(command, "index", None)
     if index:
         for other in plainer_indexes(index):
@@ -102,48 +142,70 @@ def renamed(command: Command, old: str, new: str) -> Command:
     return replace(command, **found)  # type: ignore[type-var]
 
 
-def candidates(commands: Commands) -> Iterator[Commands]:
+def candidates(steps: Sequence[Step], may_end_earlier: bool) -> Iterator[Commands]:
     """Scripts that are a little smaller, those with fewer steps first."""
+    commands = tuple(step.command for step in steps)
+    if may_end_earlier:
+        yield commands[:-1]
     for at in reversed(range(len(commands) - 1)):
         yield without(commands, at)
-        command = commands[at]
-        source = getattr(command, "source", "") or getattr(getattr(command, "left", getattr(command, "operand", None)), "name", "")
-        if command.binds and source and source != command.binds:
-            yield (*commands[:at], *(renamed(each, command.binds, source) for each in commands[at + 1:]))
+        yield from simpler_steps(steps, at)
+    yield from shorter_together(commands)
     for at, command in enumerate(commands):
         for other in plainer(command):
             yield (*commands[:at], other, *commands[at + 1:])
 
 
-def asked_again(oracle: Oracle, commands: Commands, id_: str, has: frozenset[str]) -> Optional[Question]:
-    """The question about other steps, if the bench carries them out and the library has what they need."""
-    steps = oracle.steps(commands)
-    if len(steps) < len(commands) or steps[-1].code in OWN_REFUSALS or not all(step.needs <= has for step in steps):
+def simpler_steps(steps: Sequence[Step], at: int) -> Iterator[Commands]:
+    """Scripts in which what a step makes is its source, or is made as a new array."""
+    commands = tuple(step.command for step in steps)
+    command = commands[at]
+    source = getattr(command, "source", "") or getattr(getattr(command, "left", getattr(command, "operand", None)), "name", "")
+    if command.binds and source and source != command.binds:
+        yield (*commands[:at], *(renamed(each, command.binds, source) for each in commands[at + 1:]))
+    if command.binds and not isinstance(command, NewArray):
+        shown = steps[at].shown[command.binds]
+        yield (*commands[:at], NewArray(command.binds, shown.type, shown.shape, tuple(shown.items)), *commands[at + 1:])
+
+
+class Shrinker:
+    """Asks about smaller and smaller scripts of a finding."""
+
+    def __init__(self, ask: Asked, has: frozenset[str], oracle: Oracle):
+        self.ask, self.has, self.oracle = ask, has, oracle
+        self.seen: set[Commands] = set()
+        self.until = self.last = 0.0
+
+    def asked(self, commands: Commands, found: Verdict) -> Optional[Verdict]:
+        """The verdict on other steps, if the bench carries them out, the library has what they need, and they show the same kind of finding."""
+        if not commands or tuple(commands) in self.seen:
+            return None
+        self.seen.add(tuple(commands))
+        steps = self.oracle.steps(commands)
+        if len(steps) < len(commands) or steps[-1].code in OWN_REFUSALS or not all(step.needs <= self.has for step in steps):
+            return None
+        verdict = self.ask(question_of(found.question.id, "random scripts", steps))
+        is_same = verdict.verdict == found.verdict and (verdict.verdict == DIES or verdict.command.word == found.command.word)
+        return verdict if is_same else None
+
+    def smaller(self, found: Verdict) -> Optional[Verdict]:
+        """A smaller finding of the same kind, if there is one and there is time."""
+        for commands in candidates(self.oracle.steps(found.question.commands), found.verdict == DIES):
+            if time.monotonic() > (self.until if is_small(found.question.commands) else self.last):
+                return None
+            if verdict := self.asked(commands, found):
+                return verdict
         return None
-    return question_of(id_, "random scripts", steps)
+
+    def least(self, found: Verdict) -> Verdict:
+        """The smallest finding that is met."""
+        self.until, self.last = time.monotonic() + SECONDS, time.monotonic() + MOST_SECONDS
+        found = self.asked(found.question.commands[:found.step + 1], found) or found
+        while other := self.smaller(found):
+            found = other
+        return found
 
 
 def shrunk(found: Verdict, ask: Asked, has: frozenset[str], oracle: Oracle) -> Verdict:
     """The smallest finding of the same kind that is met in time."""
-    until = time.monotonic() + SECONDS
-    cut = asked_again(oracle, found.question.commands[:found.step + 1], found.question.id, has)
-    if cut and (verdict := ask(cut)).verdict == found.verdict:
-        found = verdict
-    seen: set[Commands] = set()
-    is_smaller = True
-    while is_smaller:
-        is_smaller = False
-        for commands in candidates(found.question.commands):
-            if time.monotonic() > until:
-                return found
-            if tuple(commands) in seen:
-                continue
-            seen.add(tuple(commands))
-            question = asked_again(oracle, commands, found.question.id, has)
-            if question is None:
-                continue
-            verdict = ask(question)
-            if verdict.verdict == found.verdict and verdict.command.word == found.command.word:
-                found, is_smaller = verdict, True
-                break
-    return found
+    return Shrinker(ask, has, oracle).least(found)

@@ -11,6 +11,7 @@ from .cases import Question, Shown
 from .commands import Command, Operand, Save, Set, Slice, Update
 from .judge_adapter import plain
 from .judge_runs import Answer, Died
+from .language import codes
 
 PASS, WRONG, DIES, ACCEPTS, REFUSES, UNSUPPORTED = "pass", "wrong", "dies", "accepts", "refuses", "not supported"
 # From the worst on.
@@ -39,6 +40,11 @@ class Verdict:
     def cause(self) -> tuple[str, ...]:
         """Findings with the same cause are told once."""
         return (self.verdict, self.question.feature, traits(self.question, self.command), self.what)
+
+    def family(self) -> tuple[str, ...]:
+        """Findings that differ in the operation alone are told together."""
+        others = [word for word in traits(self.question, self.command).split() if word != getattr(self.command, "operation", "")]
+        return (self.verdict, self.question.feature, " ".join(others), self.what)
 
 
 def traits(question: Question, command: Command) -> str:
@@ -127,7 +133,7 @@ def judged(question: Question, answer: Answer, wants: Optional[Sequence[Mapping[
     """The verdict. `wants` has what is wanted after each step, if the question was asked so; otherwise what is wanted in the end is compared."""
     if isinstance(answer, Died):
         said = f"; it said: {answer.said[-400:]}" if answer.said else ""
-        return Verdict(DIES, question, answer.how.split(" (")[0], "", len(question.commands) - 1, answer.how + said)
+        return Verdict(DIES, question, answer.how.split(" (")[0], "", len(question.commands) - 1, answer.how + said, right_text(question))
     if "unsupported" in answer:
         return Verdict(UNSUPPORTED, question, answer["unsupported"]["text"], "", answer["unsupported"]["step"])
     states, last = answer.get("states", []), len(question.commands) - 1
@@ -137,17 +143,26 @@ def judged(question: Question, answer: Answer, wants: Optional[Sequence[Mapping[
         if step < min(reached, len(states)) and not (question.refuse and step >= question.step):
             if found := compared(question, states[step], want, step):
                 return found
-    right = f"no {question.refuse}" if question.refuse else "accepted"
     if refused and not (question.refuse and refused["step"] == question.step):
-        return Verdict(REFUSES, question, refused["text"].split(":")[0], "", refused["step"], refused["text"], "accepted")
+        right = "accepted" if question.refuse or refused["step"] < last else right_text(question)
+        return Verdict(REFUSES, question, refused["text"].split(":")[0], "", refused["step"], refused["text"], right)
     if refused:
         found = compared(question, states[-1] if states else None, question.want, question.step)
         return found and _changed(found) or Verdict(PASS, question)
     if question.refuse:
         target = question.commands[last].binds or getattr(question.commands[last], "target", "")
         got = states[-1].get(target) if states else None
-        return Verdict(ACCEPTS, question, question.refuse, target, last, text_of(got) if got else "accepted", right)
+        return Verdict(ACCEPTS, question, question.refuse, target, last, text_of(got) if got else "accepted", right_text(question))
     return compared(question, states[-1] if states else None, question.want, last) or _saved(question, answer) or Verdict(PASS, question)
+
+
+def right_text(question: Question) -> str:
+    """What bench makes of the last step: a refusal, or what the name shows that the step makes or writes."""
+    command = question.commands[-1]
+    if question.refuse:
+        return f"no {question.refuse} {codes()[question.refuse][0]}"
+    name = command.binds or getattr(command, "target", "")
+    return f"{name} = {text_of(question.want[name])}" if name in question.want else "accepted"
 
 
 def _saved(question: Question, answer: Mapping[str, Any]) -> Optional[Verdict]:

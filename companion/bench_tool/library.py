@@ -35,7 +35,7 @@ CALLS = {
 def names() -> tuple[str, ...]:
     """The names of the library in a folder, for this machine, the best one first."""
     if platform.machine() == "aarch64":
-        return (f"aarch64/{NAME}", NAME)
+        return ("libbench-aarch64.so.1", NAME)
     with suppress(OSError), open("/proc/cpuinfo", "rb", 0) as told:
         flags = told.read(1 << 13).decode(errors="replace").partition("\nflags")[2].partition("\n")[0]
         if V3.issubset(flags.split()):

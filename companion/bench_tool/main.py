@@ -8,7 +8,7 @@ from typing import Any, Callable, Optional, Sequence
 
 from . import __version__, page, raw, runs, shell, show
 from .session import BenchError
-from .terminal import defect, open_streams, printable, say
+from .terminal import defect, drop_unwritten, open_streams, printable, say
 
 SIGNALS = (signal.SIGINT, signal.SIGTERM, signal.SIGHUP)
 
@@ -134,4 +134,6 @@ def main(arguments: Optional[Sequence[str]] = None) -> int:
         say("bench-tool: out of memory")
     except Exception as fault:
         say(f"bench-tool: {printable(defect(fault), 500)}")
+    finally:
+        drop_unwritten()
     return 3

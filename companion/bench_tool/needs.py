@@ -33,6 +33,7 @@ WORDS = {
     "far": "integers that the type of the array cannot hold, in a comparison",
 }
 ALL = frozenset(WORDS)
+MOST_AXES = 64  # of an array in bench
 SIDES = ("left", "right", "operand", "value")  # the operands of commands
 # A type and a shape, as a name shows them.
 Known = Tuple[str, Tuple[int, ...]]

@@ -9,7 +9,7 @@
 - CALLS: functions and methods with NumPy's parameters, what must hold of the arguments, and what they are then: an expression of the
   same arguments, lines, or a reason after `!`. In lines $x is the name that is made and $t, $u and $v are free names; the last line
   that begins with `$x =` is the value, and a parameter stands for its operand.
-- REASONS: what there is not, and why.
+- REASONS: what there is not, and why. NO_KIND: what there is not, by the letters of types.
 """
 import json
 from typing import Any
@@ -29,6 +29,8 @@ LINES = [
     {"when": r"(clear|cls|reset)(\(\))?", "say": "`del a` unbinds a name; `exit` ends the shell"},
     {"when": r"(import|from)\s.*", "say": f"there is no import: {ONE_COMMAND}, and nothing is imported"},
     {"when": r"(for|while|if|elif|else|with|try|class|def|assert|return|raise|lambda|global)\b.*", "say": f"there is no `$1`: {ONE_COMMAND}"},
+    {"when": r"(?:set\s+)?(\w+\s*\[[^\]]*\])\s*=\s*-?\d+(?:\s+-?\d+)+", "say": "several values are an array: `t = array <i4 (3) 1 2 3`, and then `set $1 = t`"},
+    {"when": r"[^\"']*\[[^\]]*\.\.\.[^\]]*\.\.\..*", "say": "an index has `...` once at most"},
     {"when": r"save\s+(\w+)\s+[\"']?\S*/\S*", "say": "a file name has no folder: --dir chooses the folder of all files"},
     {"when": r"(?:let|var|const|auto|int|int \*)\s+(\w+\s*=.*)", "as": "$1"},
     {"when": r"(\w+)\s*:=\s*(.+)", "as": "$1 = $2"},
@@ -134,10 +136,13 @@ REASONS = {
     NO_TEXT: "str_ unicode_ char",
 }
 
+NO_KIND = {"f": "floats", "c": "complex numbers", "m": "time spans", "M": "dates", "U": "Unicode strings", "O": "Python objects",
+           "V": "plain bytes"}
+
 
 def values() -> dict[str, Any]:
     """All rules, by their names."""
-    names = ("LINES", "OPERATORS", "TURNED", "WORDS", "TYPES", "AND", "CALLS", "REASONS", "NO_FLOATS", "NO_TEXT")
+    names = ("LINES", "OPERATORS", "TURNED", "WORDS", "TYPES", "AND", "CALLS", "REASONS", "NO_FLOATS", "NO_TEXT", "NO_KIND")
     return {name: globals()[name] for name in names}
 
 

@@ -26,24 +26,43 @@ MOST_UNDO = 56  # of the 64 states that a bench keeps, the others are for what i
 MOST_FILES = 32 << 20  # bytes of files that go into a page
 GIVEN = re.compile(r'(?<=<script type="application/json" id="given">)[^<]*')
 MODULES = re.compile(r'<script type="module">(.*?)// ---- the page', re.S)
-# Reads what is given and the page from standard input, runs the script, and writes what is asked of its moments.
+# Reads what is given and the program: in Node from standard input, in a browser from a constant before this text.
+IN_NODE = """
+const fs = await import("node:fs"), zlib = await import("node:zlib"), { given, program } = JSON.parse(fs.readFileSync(0, "utf8"));
+const unpacked = zlib.gunzipSync(Uint8Array.from(atob(program), letter => letter.charCodeAt(0)));
+"""
+IN_BROWSER = """
+const { given, program } = told, packed = new Blob([Uint8Array.from(atob(program), letter => letter.charCodeAt(0))]);
+const unpacked = await new Response(packed.stream().pipeThrough(new DecompressionStream("gzip"))).arrayBuffer();
+"""
+# Runs the script. `given.puts` has the files that are stored before a line, by the line's number.
 DRIVER = """
-const fs = await import("node:fs"), zlib = await import("node:zlib"), {{ given, program }} = JSON.parse(fs.readFileSync(0, "utf8"));
-const calls = await load(zlib.gunzipSync(Uint8Array.from(atob(program), letter => letter.charCodeAt(0))));
-function opened(undo) {{
-  const bench = new Bench(calls, undo);
-  for (const [name, text] of Object.entries(given.files)) bench.files.set(name, Uint8Array.from(atob(text), letter => letter.charCodeAt(0)));
+const calls = await load(unpacked);
+function stored(bench, files) {
+  for (const [name, text] of Object.entries(files)) bench.files.set(name, Uint8Array.from(atob(text), letter => letter.charCodeAt(0)));
   return bench;
-}}
-function run(text, undo) {{
-  const trace = new Trace(opened, {{ undo, text }}), moments = text ? text.replace(/\\n$/, "").split("\\n").map(line => trace.step(line)) : [];
+}
+const opened = undo => stored(new Bench(calls, undo), given.files);
+function run(text, undo) {
+  const trace = new Trace(opened, { undo, text }), moments = [];
+  for (const line of text ? text.replace(/\\n$/, "").split("\\n") : []) {
+    for (const bench of [trace.bench, trace.second]) stored(bench, given.puts?.[moments.length + 1] ?? {});
+    moments.push(trace.step(line));
+  }
   trace.close();
   return moments;
-}}
-{asked}
+}
 """
 PICTURE = "const moments = run(given.script, given.undo), last = moments.at(-1);\n" \
-    "process.stdout.write(picture(last.line, tablesOf(last, huesOf(moments)).tables, said(last)));"
+    "const drawn = picture(last.line, tablesOf(last, huesOf(moments)).tables, said(last));\n"
+WRITTEN = "process.stdout.write(drawn);"
+# A picture as a document of its own, which fetches nothing, and is as high in its frame as it has to be.
+DOCUMENT = """<!DOCTYPE html><meta charset="utf-8"><meta http-equiv="Content-Security-Policy"
+content="default-src 'none'; script-src 'unsafe-inline' 'wasm-unsafe-eval'; style-src 'unsafe-inline'">
+<style>body{{margin:0}}svg{{display:block;max-width:100%;height:auto}}</style><script type="module">{code}
+document.body.innerHTML = drawn;
+if (frameElement) frameElement.style.height = `${{document.body.scrollHeight}}px`;
+</script>"""
 
 
 def form() -> str:
@@ -80,29 +99,47 @@ def drawn(title: str, lines: Sequence[bytes], words: argparse.Namespace) -> str:
     return GIVEN.sub(lambda _: text, form(), count=1)
 
 
-def asked(text: str, lines: Sequence[bytes], words: argparse.Namespace) -> str:
-    """What Node returns for a script, with the modules of the page."""
-    node = shutil.which("node")
-    if node is None:
-        raise BenchError("a picture needs Node; a page does not, and saves its pictures too")
+def sources() -> tuple[str, str]:
+    """The modules of the page that draw, as one text, and the packed program."""
     page = form()
     code, program = MODULES.search(page), re.search(r'id="program">([^<]*)', page)
     assert code and program
-    told = json.dumps({"given": given("", lines, words), "program": program[1]})
+    return code[1], program[1]
+
+
+def in_node(text: str, told: dict[str, Any]) -> str:
+    """What Node returns for some data, with the modules of the page."""
+    node = shutil.which("node")
+    if node is None:
+        raise BenchError("a picture needs Node; a page does not, and saves its pictures too")
+    code, program = sources()
     with tempfile.TemporaryDirectory() as folder:
         file = Path(folder, "drawn.mjs")
-        file.write_text(code[1] + DRIVER.format(asked=text), encoding="utf-8")
-        done = subprocess.run([node, str(file)], input=told.encode(), stdout=subprocess.PIPE, stderr=subprocess.PIPE)
+        file.write_text(code + IN_NODE + DRIVER + text, encoding="utf-8")
+        sent = json.dumps({"given": told, "program": program}).encode()
+        done = subprocess.run([node, str(file)], input=sent, stdout=subprocess.PIPE, stderr=subprocess.PIPE)
     if done.returncode:
         raise BenchError(f"Node ended with status {done.returncode}: {done.stderr.decode(errors='replace').strip()[-400:]}")
     return done.stdout.decode()
+
+
+def in_browser(told: dict[str, Any]) -> str:
+    """A document in which a browser draws the picture of the last line."""
+    code, program = sources()
+    data = json.dumps({"given": told, "program": program}).replace("<", "\\u003c")
+    return DOCUMENT.format(code=f"{code}const told = {data};{IN_BROWSER}{DRIVER}{PICTURE}")
+
+
+def asked(text: str, lines: Sequence[bytes], words: argparse.Namespace) -> str:
+    """What Node returns for a script, with the modules of the page."""
+    return in_node(text, given("", lines, words))
 
 
 def picture(lines: Sequence[bytes], words: argparse.Namespace) -> str:
     """A picture of the chosen line."""
     if not 1 <= (words.line or 0) <= len(lines):
         raise BenchError(f"--svg needs --line, 1 to {len(lines)}")
-    return asked(PICTURE, lines[:words.line], words)
+    return asked(PICTURE + WRITTEN, lines[:words.line], words)
 
 
 def write(path: str, text: str) -> None:

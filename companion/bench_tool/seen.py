@@ -5,6 +5,7 @@ places is less than an item, which is looked for axis by axis, the widest steps 
 """
 from __future__ import annotations
 
+import re
 from itertools import product
 from typing import Iterable, Iterator, NamedTuple, Optional
 
@@ -13,6 +14,7 @@ from .commands import Set, Slice, Update
 from .parsing import ParseError, parse
 from .session import Array, BenchError, Session
 
+ONE_ITEM = re.compile(r"\s*(\w+)\s*=\s*\w+\[[-+\d,\s]+\]\s*")
 MOST_NAMES = 100  # that are looked at
 MOST_SHOWN = 8
 MOST_PLACES = 4096  # items that an index array selects
@@ -128,6 +130,13 @@ def seen_by(session: Session, line: str, trial: Optional[Session] = None) -> str
     others = {name: places_of(session.array(name, items=False)) for name in names}
     found = [name for name in names if any(meet(each, others[name]) is not False for each in items)]
     return f"seen by {listed(found)}{' only' * (found == [array.name])}" if found else ""
+
+
+def one_item(session: Session, line: str) -> str:
+    """What differs from NumPy after a line that binds a name to one item: there it is a copy, except of a record."""
+    found = ONE_ITEM.fullmatch(line)
+    array = session.array(found[1], items=False) if found else None
+    return f"a view of one item; in NumPy it is a copy (`copy {array.name} C`)" if array and not array.shape and not array.type.startswith("T") else ""
 
 
 def listed(names: list[str]) -> str:

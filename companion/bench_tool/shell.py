@@ -155,6 +155,7 @@ class Shell:
         self.found: list[str] = []
         self.read: Callable[[str], str] = input
         self.offered: list[str] = []  # the lines that Enter on an empty line runs
+        self.is_taking = False  # whether they run
         self.offer: Callable[[list[str], bool], None] = lambda *_: None
         self.interrupts = Interrupts()
         if is_terminal:
@@ -182,11 +183,12 @@ class Shell:
 
     def take(self) -> None:
         """Runs the lines that were offered."""
-        lines = self.offered
+        lines, self.is_taking = self.offered, True
         self.offer(lines, True)
         for line in lines:
             print(PROMPT + line)
             self.answer(line)
+        self.is_taking = False
 
     def answer(self, line: str) -> None:
         """Carries out a line. If Ctrl-C stopped the program, or it ended, the accepted lines run again in a new one."""
@@ -213,7 +215,7 @@ class Shell:
             print(language.help_text(rest.strip(), room()[1] * self.is_terminal) + f"\n{DOTS}" * (not rest))
         elif first.startswith("."):
             dot = getattr(self, f"dot_{first[1:]}", None)
-            print(f"    there is no command {printable(first)}; help lists them all") if dot is None else dot(rest.strip())
+            print(f"    there is no command {printable(first)}: .names lists the names, help all commands") if dot is None else dot(rest.strip())
         else:
             is_name = bare.isidentifier() and bare in self.session.names()
             self.send(f"print {bare}" if is_name else line)
@@ -249,6 +251,7 @@ class Shell:
             taken = self.keep(line, reply)
             self.note(f"(took back: {printable(taken, 200)})" if taken and self.is_terminal else "")
             self.note(self.hints.seen(line) if reply.text not in ("ok set 0", "ok upd 0") else "")
+            self.note(self.hints.one_item(line) if not self.is_taking and not place else "")
 
     def keep(self, line: str, reply: Reply) -> str:
         """Notes an accepted line, and returns the line that it took back."""

@@ -51,6 +51,15 @@ def open_streams() -> None:
         sys.stdout.reconfigure(write_through=False, line_buffering=sys.stdout.isatty())
 
 
+def drop_unwritten() -> None:
+    """Drops what standard error refused, since Python would try it again when it ends, and end with status 120."""
+    try:
+        sys.stderr.flush()
+    except (OSError, ValueError):
+        with suppress(OSError):
+            os.dup2(os.open(os.devnull, os.O_WRONLY), 2)
+
+
 def lines_of(script: BinaryIO) -> Iterator[bytes]:
     """The lines of a script without their newlines. A line that is too long is cut to a length that is still too long."""
     def read(most: int) -> bytes:

@@ -1,4 +1,4 @@
-"""dask.array, in chunks of two. A dask array is lazy and has no views: a write makes another array under the same name."""
+"""dask.array, in chunks of two items, or nine chunks. A dask array is lazy and has no views: a write makes another array under the same name."""
 import dask
 import dask.array as da
 import numpy as np
@@ -11,8 +11,8 @@ plain = lambda index: tuple(part.compute() if isinstance(part, da.Array) else pa
 
 class Dask:
     HAS = needs.ALL - {"views", "big_endian", "byte_strings", "records"}
-    def make(self, type, shape, items): return da.from_array(np.array(items, type).reshape(shape), chunks=2)
-    def items(self, a): return str(a.dtype), np.shape(a.compute()), a.compute().tolist()
+    def make(self, type, shape, items): return da.from_array(np.array(items, type).reshape(shape), chunks=[max(2, length // 9) for length in shape])
+    def items(self, a): return (lambda made: (str(a.dtype), made.shape, made.tolist()))(np.asarray(a.compute()))
     def take(self, a, index): return a[plain(index)]
     def put(self, a, index, value): a[plain(index)] = value
     def op(self, name, a, b): return OPERATORS[name](a, b)

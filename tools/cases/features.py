@@ -40,7 +40,7 @@ transpose.*|a write through a transpose -> transpose
 broadcast|.* of a broadcast|a view of a broadcast -> broadcast
 a write to a broadcast -> writes to a broadcast
 .*then a write.*|an (array|updated).*|a name that.* -> views and copies
-(set|upd) of a list from other shapes|(set|upd) of a mask from other shapes -> broadcasting: index arrays and masks
+(set|upd) of a (list|mask) from.* other shapes -> broadcasting: index arrays and masks
 set (from|of a slice from|of rows).* other shapes|set of a literal -> broadcasting: assignments
 upd.* other shapes -> broadcasting: in place
 .* other shapes|operations of a column and a row -> broadcasting: operations

@@ -63,16 +63,16 @@ def wide(maker: Maker) -> None:
 def of_views(maker: Maker) -> None:
     """Reductions of transposed, reversed, stepped and repeated arrays."""
     begin = array("b", (3, 4), values(12, 2))
-    views = ["a = transpose b", "a = b[::-1]", "a = b[:,::-1]", "a = b[::2,1:]", "a = b[::-1,::-2]", "a = b[1]", "a = b[:,2]", "a = b[None,::2]", "a = b[1:2]"]
+    views = ["a = transpose b", "a = b[::-1]", "a = b[:,::-1]", "a = b[::2,1:]", "a = b[::-1,::-2]", "a = b[1]", "a = b[:,2]"]
     places = (("", ""), (" 0", ""), (" -1", " keep"))
     maker.table("reductions", "reductions of a view", ([begin, view, f"x = {word} a{axis}{keep}"] for word in WORDS for view in views for axis, keep in places), any_type=True)
     orders = ("(2,0,1)", "(1,2,0)", "(1,0,2)")
     maker.table("reductions", "reductions of a transposed array", ([array("b", (2, 3, 2), values(12, 5)), f"a = transpose b {order}", f"x = {word} a{axis}"]
                 for word in WORDS for order in orders for axis in ("", " 0", " 1", " 2")), any_type=True)
     maker.table("reductions", "reductions of a repeated array", ([array("b", (3,), (4, 1, 4)), "a = broadcast b (2,3)", f"x = {word} a{axis}"] for word in WORDS for axis in ("", " 0", " 1")), any_type=True)
-    for count in (7, 9, 17, 33, 65, 100):
-        made = ([f"a = arange <i4 0 {count} 1", f"upd a[:] mod {number}", f"x = {word} a"] for word in ("argmax", "argmin", "max", "sum") for number in (7, 3, count, 5))
-        maker.table("reductions", "reductions of longer arrays", made, named=["x"])
+    for count in (9, 17, 33, 65):
+        made = ([array("a", (count,), (k % number for k in range(count))), f"x = {word} a"] for word in ("argmax", "argmin", "max", "sum") for number in (7, count))
+        maker.table("reductions", "reductions of longer arrays", made, any_type=True, named=["x"])
 
 
 def all_cases(maker: Maker) -> None:

@@ -157,6 +157,7 @@ def wrong_masks(maker: Maker) -> None:
     maker.table("masks", "a mask of (1, 3)", ([array("a", (1, 3)), mask("k", (1, 3), bits), "x = a[k]"] for bits in itertools.product((0, 1), repeat=3)), any_type=True)
     maker.table("masks", "a mask of (1, 3) on three axes", ([array("a", (1, 3, 4)), mask("k", (1, 3), bits), "x = a[k]"] for bits in itertools.product((0, 1), repeat=3)), any_type=True)
     maker.table("masks", "a mask of (1, 1)", ([array("a", (1, 1)), mask("k", (1, 1), (bit,)), line] for bit in (0, 1) for line in ("x = a[k]",)), any_type=True)
+    maker.table("masks", "a mask of (1, 1) on three axes", ([array("a", (1, 1, 3)), mask("k", (1, 1), [bit]), "x = a[k]"] for bit in (0, 1)), any_type=True)
 
 
 def all_cases(maker: Maker) -> None:

@@ -15,24 +15,29 @@ import sources
 # Of the C library's headers bench.c needs only these lines.
 STDDEF = "typedef __SIZE_TYPE__ size_t;\n#define NULL ((void *)0)\n"
 STDINT = "typedef __UINT8_TYPE__ uint8_t;\n#define PTRDIFF_MAX __PTRDIFF_MAX__\n"
-COMPILED = ["--target=x86_64-unknown-linux-gnu", "-std=c11", "-O2", "-fPIC", "-Wall", "-Wextra", "-Werror", "-nostdinc", "-isystem", "."]
+COMPILED = ["-std=c11", "-O2", "-fPIC", "-Wall", "-Wextra", "-Werror", "-nostdinc", "-isystem", "."]
 SHARED = ["-shared", "--soname=libbench.so.1", "--gc-sections", "--strip-all", "--build-id=none", "-z", "defs", "-z", "relro", "-z", "now"]
 
 
-def linked(archive):
-    """The bytes of the library's files, linked from an archive of bench_c: libbench.so.1, and libbench.a with all of it as one object, so
-    that no other name can clash with one of the program's."""
-    kit, header = sources.kit_folder(), (sources.LIBRARY / "bench.h").read_text()
-    calls = re.findall(r"^int (bench_\w+)\(", header, re.M)
-    below = [kit / "c/liblibc_c.a", kit / "toolchain/lib/libgcc.a"]
+def toolchain_below():
+    """What the toolchain has to link with, for x86-64: its own C part, and the C library."""
+    kit = sources.kit_folder()
+    return [kit / "c/liblibc_c.a", kit / "toolchain/lib/libgcc.a"], kit / "toolchain/lib/libc.so.6"
+
+
+def linked(archive, machine="x86_64", under=None):
+    """The bytes of the library's files, linked from an archive of bench_c, for a machine and over what it has: libbench.so.1, and
+    libbench.a with all of it as one object, so that no other name can clash with one of the program's."""
+    calls = re.findall(r"^int (bench_\w+)\(", (sources.LIBRARY / "bench.h").read_text(), re.M)
+    below, libc = under or toolchain_below()
     proved = ["calls.o", "--whole-archive", archive, "--no-whole-archive", *below]
     exports = "{ global: " + " ".join(f"{call};" for call in calls) + " local: *; };\n"
     with tempfile.TemporaryDirectory() as folder:
         run = functools.partial(sources.llvm, cwd=folder)
         for name, text in {"stddef.h": STDDEF, "stdint.h": STDINT, "calls": "\n".join(calls) + "\n", "exports": exports}.items():
             Path(folder, name).write_text(text)
-        run("clang", *COMPILED, "-c", sources.LIBRARY / "bench.c", "-o", "calls.o")
-        run("ld.lld", *SHARED, "--version-script=exports", "-o", "libbench.so.1", *proved, kit / "toolchain/lib/libc.so.6")
+        run("clang", f"--target={machine}-unknown-linux-gnu", *COMPILED, "-c", sources.LIBRARY / "bench.c", "-o", "calls.o")
+        run("ld.lld", *SHARED, "--version-script=exports", "-o", "libbench.so.1", *proved, libc)
         run("ld.lld", "-r", "-o", "bench.o", *proved)
         run("llvm-objcopy", "--keep-global-symbols=calls", "--strip-debug", "bench.o")
         run("llvm-ar", "rcsD", "libbench.a", "bench.o")

@@ -1,5 +1,5 @@
-"""Builds crates/bench_c over the libraries below it, as they stand in crates/*/out/rlib: its archive, and the LLVM module that the archive
-is compiled from.
+"""Builds a crate on top over the libraries below it, as they stand in crates/*/out/rlib; of crates/bench_c its archive, and the LLVM module
+that the archive is compiled from.
 
 `make page` takes the libraries that `make` built, and the gate those that `rt ci` has just built: it proves bench_c itself, and builds
 nothing of it."""
@@ -40,31 +40,41 @@ def is_built(crate, here):
     return rlib(crate).is_dir() and (not (rlib(crate) / "stamp").is_file() or prove.Crate(crate, here).stands())
 
 
-def words(below):
-    """The libraries that bench_c uses, in the words of rattle: those of the toolchain, and those of this repository."""
-    kit, own = sources.kit_folder(), sources.uses()[CRATE]
-    used = re.search(rf"^{CRATE} staticlib:(.*)$", (sources.TOP / "crates.txt").read_text(), re.M)[1].split()
+def words(crate, below):
+    """The libraries that a crate uses, in the words of rattle: those of the toolchain, and those of this repository."""
+    kit, own = sources.kit_folder(), sources.uses()[crate]
+    used = re.search(rf"^{crate}(?: staticlib)?:(.*)$", (sources.TOP / "crates.txt").read_text(), re.M)[1].split()
     places = {name: kit / "rlibs" for name in ["std", *used] if name not in own} | {name: rlib(name) for name in own}
     externs = [word for name, folder in places.items() for word in ("--extern", f"{name}={folder}/{name}.rlib")]
     return externs + [word for folder in [kit / "rlibs", *map(rlib, below)] for word in ("-L", f"dependency={folder}")]
 
 
-def build(out, here):
-    """Has rattle check and compile bench_c, by the toolchain `here`, with what earlier checks kept: OUT/libbench_c.a and OUT/module.bc."""
-    kit, below = sources.kit_folder(), [name for name in sources.made_of(CRATE) if name != CRATE]
+def compiled(crate, here, made, *more):
+    """Has rattle check a crate on top, by the toolchain `here` and with what earlier checks kept, and compile it, as `more` says: an archive,
+    or the object of a program. Returns its path, which is `made`."""
+    kit, below = sources.kit_folder(), [name for name in sources.made_of(crate) if name != crate]
     stale = [name for name in below if not is_built(name, here)]
     if stale:
-        raise NotBuilt(f"the libraries below bench_c are not built of these sources: run `make` ({' '.join(stale)})")
-    archive, kept = out / f"lib{CRATE}.a", out / "module.bc"
-    out.mkdir(parents=True, exist_ok=True)
-    for path in (archive, kept):
-        path.unlink(missing_ok=True)
+        raise NotBuilt(f"the libraries below {crate} are not built of these sources: run `make` ({' '.join(stale)})")
+    made.parent.mkdir(parents=True, exist_ok=True)
+    made.unlink(missing_ok=True)
+    kind = ["src/lib.rt", "--crate-type", "staticlib"] if crate == CRATE else ["src/main.rt"]
     project = kit / "rattle/logic/antt-project.json"
     logic = ["--antt-project", project, "--logic-built", kit / "logic_built", "--incremental", "out/incremental"]
-    made = ["--crate-type", "staticlib", "--toolchain", toolchain(out), "--backend", "llvm", "-o", archive]
-    with open(out / "log", "wb") as log:
-        command = [kit / "bin/rattle", "build", "--crate-name", CRATE, "src/lib.rt", *words(below), *logic, "--jobs", JOBS, *made]
-        done = subprocess.run(command, cwd=sources.TOP / "crates" / CRATE, stdin=subprocess.DEVNULL, stdout=log, stderr=log)
-    if done.returncode or not kept.is_file():
-        raise NotBuilt(f"bench_c was not built: {out}/log has all that rattle said")
+    command = [kit / "bin/rattle", "build", "--crate-name", crate, *kind, *words(crate, below), *logic, "--jobs", JOBS, "--backend", "llvm", *more, "-o", made]
+    with open(made.with_suffix(".log"), "wb") as log:
+        done = subprocess.run(command, cwd=sources.TOP / "crates" / crate, stdin=subprocess.DEVNULL, stdout=log, stderr=log)
+    if done.returncode:
+        raise NotBuilt(f"{crate} was not built: {log.name} has all that rattle said")
+    return made
+
+
+def build(out, here):
+    """Has rattle check and compile bench_c, by the toolchain `here`: OUT/libbench_c.a and OUT/module.bc."""
+    kept = out / "module.bc"
+    out.mkdir(parents=True, exist_ok=True)
+    kept.unlink(missing_ok=True)
+    archive = compiled(CRATE, here, out / f"lib{CRATE}.a", "--toolchain", toolchain(out))
+    if not kept.is_file():
+        raise NotBuilt(f"{CRATE} was built without clang: {archive.with_suffix('.log')} has all that rattle said")
     return archive, kept

@@ -51,10 +51,20 @@ def llvm(tool, *words, **more):
 
 def put(folder, files):
     """Writes what was built into a folder; what runs, or is loaded to run, may be run."""
-    folder.mkdir(parents=True, exist_ok=True)
     for name, data in files.items():
+        (folder / name).parent.mkdir(parents=True, exist_ok=True)
         (folder / name).write_bytes(data)
-        (folder / name).chmod(0o644 if name.endswith(".a") else 0o755)
+        (folder / name).chmod(0o644 if name.endswith((".a", ".whl")) else 0o755)
+
+
+def glibc(binary):
+    """The version of glibc that a binary needs, as a pair of numbers, or None."""
+    return max((tuple(map(int, found)) for found in re.findall(rb"GLIBC_(\d+)\.(\d+)", binary)), default=None)
+
+
+def needs(binary, processor="x86-64-v2"):
+    """What a binary for this processor needs to run."""
+    return f"Linux, {processor}, glibc {'.'.join(map(str, glibc(binary)))}"
 
 
 def sum_of_bytes(data):

@@ -4,6 +4,7 @@ No exception is left to a person, a hint changes nothing, each command ends with
 from __future__ import annotations
 
 import contextlib
+import itertools
 import os
 import re
 import resource
@@ -81,6 +82,13 @@ def refused_lines(rng: Random) -> Iterator[str]:
         yield line
 
 
+def rounds(end: float) -> Iterator[None]:
+    """One round, and then more while there is time."""
+    yield
+    while time.monotonic() < end:
+        yield
+
+
 def hints_of_lines(part: Part, given: Namespace, rng: Random, end: float) -> None:
     """Nothing is raised while a hint is looked for but that there is no time, and no name changes."""
     with Session(given.program, undo=64) as session, hints.Hints(session, 3) as made:
@@ -89,7 +97,7 @@ def hints_of_lines(part: Part, given: Namespace, rng: Random, end: float) -> Non
             session.ask(line)
         before = [session.ask(f"info {name}") for name in session.names()]
         for line in refused_lines(rng):
-            if time.monotonic() > end:
+            if time.monotonic() > end and part.counts["refused lines"]:
                 break
             reply = session.send(line) if not line.lstrip().startswith("save") else session.send("~")
             if reply.accepted:
@@ -135,7 +143,7 @@ def little_memory(most: int) -> Iterator[None]:
 def headers(part: Part, folder: Path, rng: Random, end: float) -> None:
     """What a header says is told in words, whatever it is, and no memory goes into it."""
     path = folder / "f.npy"
-    while time.monotonic() < end:
+    for _ in rounds(end):
         text = header_text(rng).encode("utf-8", "replace")
         wide, length = rng.choice([1, 1, 1, 2, 3, 9]), min(len(text) + rng.choice([0, 0, 0, 0, -5, 9, 60000]), 65_535)
         path.write_bytes(MAGIC + bytes([wide, 0]) + max(0, length).to_bytes(2 if wide == 1 else 4, "little") + text + bytes(rng.choice([0, 12, 40])))
@@ -150,7 +158,7 @@ def headers(part: Part, folder: Path, rng: Random, end: float) -> None:
 def environments(part: Part, folder: Path, rng: Random, end: float) -> None:
     """Any settings, arguments and streams: no traceback, and a status of the tool's own."""
     (folder / "s").write_bytes(b"a = arange <i4 0 6 1\nprint a[0]\nb = a[9]\nsave a \"a.npy\"\n" + os.urandom(300))
-    while time.monotonic() < end:
+    for _ in rounds(end):
         env = environment(**{name: rng.choice(VALUES) for name in rng.sample(SETTINGS, rng.choice([0, 1, 2]))}, PYTHONIOENCODING=rng.choice(["", "ascii:strict", "latin-1"]))
         words = [rng.choice(["run", "run", "shell", "show", "draw", "--help", "zz", ""])]
         words += rng.sample(["s", "-", "f.npy", "/dev/null", ".", "--undo", "5", "--undo=x", "--dir", "--dir=/nowhere", "--line=0", "--line", "--svg", "-o", "--all", "--check",
@@ -173,7 +181,7 @@ def keys(part: Part, folder: Path, rng: Random, end: float) -> None:
     choices: list[Callable[[], bytes]] = [
         lambda: rng.choice(lines) + ENTER, lambda: rng.choice(lines) + ENTER, lambda: rng.choice(KEYS), lambda: rng.choice(DOTS) + ENTER, lambda: CTRL_C * rng.randint(1, 3),
         lambda: b"\x1b[200~" + b"\n".join(rng.sample(lines, 3)) + b"\x1b[201~" + ENTER, lambda: rng.choice(lines)[:9] + rng.choice(KEYS)]
-    while time.monotonic() < end:
+    for _ in rounds(end):
         terms = {"TERM": rng.choice(["xterm-256color", "dumb", "vt100", "xterm"]), "LC_ALL": rng.choice(["C", "C.UTF-8", ""]), "BENCH_HINT_SECONDS": "0.05"}
         typed = [rng.choice(choices)() for _ in range(rng.randint(5, 30))]
         part.count("shells")
@@ -193,13 +201,14 @@ def shell_with(folder: Path, typed: list[bytes], settings: dict[str, str]) -> st
 
     try:
         with contextlib.suppress(OSError):
-            terminal.until(b"bench> ", 60)
+            terminal.until(b"bench> ")
             for each in typed:
                 os.write(terminal.terminal, each)
                 read(0.02)
-            for end in (b"\x11", CTRL_C, b"\x07" + CTRL_C, b"\x1b[201~" + CTRL_C, b"n" + ENTER, b"\x15\x0bnames" + ENTER) * 3:
+            ends = (b"\x11", CTRL_C, b"\x07" + CTRL_C, b"\x1b[201~" + CTRL_C, b"n" + ENTER, b"\x15\x0bnames" + ENTER)
+            for pause, end in itertools.product((0.3, 0.3, 3, 30), ends):
                 os.write(terminal.terminal, end)
-                read(0.3)
+                read(pause)
                 if end.startswith(b"\x15") and (found := re.search(rb"\nnames( |\r)", shown)):
                     return shown[:found.end() - 1].decode("latin-1")
     finally:

@@ -19,7 +19,7 @@ from . import TOP
 T = TypeVar("T")
 COMPANION = TOP / "companion"
 TOOL = COMPANION / "bench-tool"
-PLACES = (TOP / "crates/bench_main/out/bench_main", TOP / "dist/bench-x86_64-linux")
+PLACES = (TOP / "crates/bench_main/out/bench_main", TOP / f"dist/bench-{os.uname().machine}-linux")
 PROGRAM = os.environ.get("BENCH") or str(next((path for path in PLACES if os.access(path, os.X_OK)), "none"))
 needs_program = unittest.skipUnless(os.access(PROGRAM, os.X_OK), "no program: none is built or in dist/, and BENCH names none")
 needs_compiler = unittest.skipUnless(shutil.which("cc"), "no C compiler is installed")
@@ -38,8 +38,9 @@ def share(few: T, all_: T) -> T:
 
 
 def environment(**more: str) -> dict[str, str]:
-    """The environment of a companion that is run, with time for its hints on a loaded machine."""
-    return {**os.environ, "BENCH": PROGRAM, "BENCH_HINT_SECONDS": "30", **more}
+    """The environment of a companion that is run, with time for its hints on a loaded machine and Python's own buffers."""
+    own = {name: text for name, text in os.environ.items() if name != "PYTHONUNBUFFERED"}
+    return {**own, "BENCH": PROGRAM, "BENCH_HINT_SECONDS": "30", **more}
 
 
 def numpy_or_none() -> Any:

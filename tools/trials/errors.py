@@ -46,6 +46,7 @@ UNSUPPORTED = {errno.EINVAL, errno.ENOSYS, errno.EOPNOTSUPP}
 FORBIDDEN = {errno.EACCES, errno.EPERM}
 FEW = [errno.EINTR, errno.EIO, errno.ENOENT, errno.EACCES, *sorted(UNSUPPORTED), errno.EROFS, errno.EMFILE, errno.ENOLCK]
 OLD_MODE = 0o640
+OTHER_GROUP = 54400  # of the files that are there before, where this is root's run
 PATIENT = 600
 
 
@@ -59,7 +60,9 @@ def answer(scenario: Scenario, calls: Sequence[Call], at: int, error: int) -> st
         if call.name == HIDDEN:
             return FAULT if is_left else scenario.reply
         return NO_FILE if scenario.script != SAVE else scenario.reply
-    if error in UNSUPPORTED and (call.kind == "lock" or call == Call("sync", FOLDER)):
+    if error in UNSUPPORTED and (call.kind in ("lock", "group") or call == Call("sync", FOLDER)):
+        return scenario.reply
+    if error in FORBIDDEN and call.kind == "group":
         return scenario.reply
     if error in FORBIDDEN and call == Call("open", HIDDEN) and is_left and call not in earlier:
         return scenario.reply
@@ -69,6 +72,8 @@ def answer(scenario: Scenario, calls: Sequence[Call], at: int, error: int) -> st
 def prepare(folder: Path, scenario: Scenario) -> None:
     fill(folder, scenario.files)
     for name in scenario.files:
+        if os.getuid() == 0:
+            os.chown(folder / name, -1, OTHER_GROUP)
         (folder / name).chmod(OLD_MODE)
 
 
@@ -105,7 +110,7 @@ def one_call(part: Part, runs: Runs, folder: Path, scenario: Scenario, calls: Se
     whole = NEW if is_named else scenario.files.get(NAME)
     found = {path.name: path.read_bytes() for path in folder.iterdir()}
     part.expect(f"{where}: the file", found.get(NAME), whole)
-    if reply.startswith("ok") or calls[at].kind in ("write", "sync", "rename", "mode-open"):
+    if reply.startswith("ok") or calls[at].kind in ("write", "sync", "rename", "group", "mode-open"):
         part.expect(f"{where}: what lies beside it", found.keys() - {NAME}, set())
     then = (runs.in_peace(SAVE, folder), sorted(os.listdir(folder)))
     part.expect(f"{where}: a save in peace", then, ("ok save 131", [NAME]))

@@ -1,5 +1,6 @@
 /* Calls before the C library's on what lies in one folder, which STORE_FOLDER names. Each is written to the file that STORE_LOG names, as its kind
-   and the name in the folder. The one whose number is STORE_FAILS, counted from 0, fails with the error STORE_ERROR. */
+   and the name in the folder. The one whose number is STORE_FAILS, counted from 0, fails with the error STORE_ERROR. What STORE_SWAP names takes
+   the place of a file just before the file is opened. */
 #define _GNU_SOURCE
 #include <errno.h>
 #include <fcntl.h>
@@ -68,6 +69,8 @@ int open(const char *path, int flags, ...)
     va_end(more);
     if (fails("open", name))
         return -1;
+    if (name != NULL && getenv("STORE_SWAP") != NULL)
+        syscall(SYS_renameat2, AT_FDCWD, getenv("STORE_SWAP"), AT_FDCWD, path, 0);
     long file = syscall(SYS_openat, AT_FDCWD, path, flags, mode);
     if (name != NULL && file >= 0 && file < MOST_FILES)
         snprintf(names[file], sizeof names[file], "%s", name);
@@ -107,6 +110,11 @@ int fsync(int file)
 int flock(int file, int how)
 {
     return fails("lock", name_of(file)) ? -1 : syscall(SYS_flock, file, how);
+}
+
+int fchown(int file, uid_t owner, gid_t group)
+{
+    return fails("group", name_of(file)) ? -1 : syscall(SYS_fchown, file, owner, group);
 }
 
 int fchmod(int file, mode_t mode)

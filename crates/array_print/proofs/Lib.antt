@@ -3,6 +3,7 @@ pub mod LeafLaws
 pub mod WidthLaws
 pub mod PartLaws
 pub mod RepeatLaws
+pub mod OneLaws
 pub mod WholeLaws
 pub mod PrintLaws
 pub mod BandLaws

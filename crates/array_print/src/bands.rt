@@ -1,9 +1,10 @@
 //! The text of an array, sent while it is made. Of a long text, little more than a band is held.
-ghost use Rattle.std.specs.Prelude.{All, IfOk, IsErrOf, List, OnErr, OnOk, get_or, length, vec_capacity, ℕ, ◌++◌, ◌+◌, ◌<◌, ◌≡◌, ◌≤◌};
+ghost use Rattle.std.specs.Prelude.{All, IfOk, IsErrOf, List, OnErr, OnOk, get_or, length, vec_capacity, ℕ, ◌++◌, ◌+◌, ◌<◌, ◌*◌, ◌≡◌, ◌≤◌, ◌⊎◌};
 ghost use Rattle.array_print.specs.Clauses.{array_text, items_from, Sends, SendsPart, item_size, offsets, Memory, WriteOut, AreItemsAt, Grows, part_offsets, part_text, text_at, Appends, StartsWith};
 
+use crate::axes::{repeats, step_along};
 use crate::padding::{push_again, push_lead};
-use crate::printer::{Items, push_block, repeats, step_along};
+use crate::printer::{Items, push_block};
 use crate::widths::widths_of;
 use elem_descr::Descr;
 use shape_strides::Layout;
@@ -161,7 +162,7 @@ fn send_block<W: Write>(
 
 /// Appends the text of an array whose items are at the layout's offsets in a block, and sends what
 /// comes before the end, band by band. The end is left to be sent. All memory is allocated before
-/// the first byte is written.
+/// the first byte is written: room for four bands, and for the longest block or item.
 pub fn print_by_bands<'a, W: Write>(
     writer: &mut W,
     out: &mut Vec<u8>,
@@ -181,6 +182,7 @@ pub fn print_by_bands<'a, W: Write>(
         (items_from descr.now block.now (offsets layout.now))) }
     ensures memory { IsErrOf result PrintFault.Memory →
         (writer.new ≡ writer.old) × StartsWith out.new.items out.old.items }
+    ensures asked { (writer.new ≡ writer.old) ⊎ (4 * 65536 ≤ vec_capacity out.new) }
     ensures room { vec_capacity out.old ≤ vec_capacity out.new }
 {
     if layout.shape.items() == 0 {

@@ -1,6 +1,7 @@
 //! The text of an array of any descriptor, as NumPy prints it.
 #![tactic(auto)]
 
+mod axes;
 mod bands;
 mod padding;
 mod printer;

@@ -14,6 +14,15 @@ fn push_repeated(out: &mut Vec<u8>, byte: u8, n: usize) -> Result<(), AllocError
     Ok(())
 }
 
+/// Appends `n` copies of a byte at once.
+pub fn push_few(out: &mut Vec<u8>, byte: u8, n: usize) -> Result<(), AllocError>
+    requires { n ≤ 65 }
+    ensures { Pushes (replicate n byte) result out.old out.new }
+{
+    let len = out.len();
+    out.resize(len + n, byte)
+}
+
 /// Appends what comes before block `k` of an axis that has `inner` axes inside it: nothing before
 /// the first.
 pub fn push_lead(
@@ -22,7 +31,8 @@ pub fn push_lead(
     brackets: usize,
     inner: usize,
 ) -> Result<(), AllocError>
-    requires { brackets ≤ 64 }
+    requires brackets { brackets ≤ 64 }
+    requires inner { inner ≤ 64 }
     ensures { Pushes (lead k (separator brackets inner)) result out.old out.new }
 {
     if k == 0 {
@@ -33,14 +43,15 @@ pub fn push_lead(
 
 /// Appends what comes between two blocks of an axis that has `inner` axes inside it.
 fn push_separator(out: &mut Vec<u8>, brackets: usize, inner: usize) -> Result<(), AllocError>
-    requires { brackets ≤ 64 }
+    requires brackets { brackets ≤ 64 }
+    requires inner { inner ≤ 64 }
     ensures { Pushes (separator brackets inner) result out.old out.new }
 {
     if inner == 0 {
-        return push_repeated(out, b' ', 1);
+        return push_few(out, b' ', 1);
     }
-    push_repeated(out, b'\n', inner)?;
-    push_repeated(out, b' ', brackets + 1)
+    push_few(out, b'\n', inner)?;
+    push_few(out, b' ', brackets + 1)
 }
 
 /// How many bytes of a text are copied at once.
@@ -75,6 +86,7 @@ pub fn push_again(
 ) -> Result<(), AllocError>
     requires start { start ≤ length out.old.items }
     requires brackets { brackets ≤ 64 }
+    requires inner { inner ≤ 64 }
     ensures { Pushes (repeated (separator brackets inner ++ drop start out.old.items) times)
         result out.old out.new }
 {

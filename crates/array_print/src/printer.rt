@@ -1,12 +1,13 @@
 //! The text of an array: items in nested brackets, each value padded to the width of its leaf.
 ghost use Rattle.array_print.specs.Printed.{array_text, field_texts, in_parentheses, items_from, structure_text};
-ghost use Rattle.std.specs.Prelude.{All, IfOk, IsTrue, OnErr, OnOk, [], drop, get_or, length, pos, slice_index_or, vec_capacity, ◌*ℤ◌, ◌++◌, ◌+ℤ◌, ◌+◌, ◌<◌, ◌^◌, ◌↔◌, ◌≡◌, ◌≤◌};
+ghost use Rattle.std.specs.Prelude.{All, IfOk, IsTrue, OnErr, OnOk, [], drop, get_or, length, pos, slice_index_or, vec_capacity, ◌*ℤ◌, ◌++◌, ◌+ℤ◌, ◌+◌, ◌<◌, ℕ, ◌^◌, ◌↔◌, ◌≡◌, ◌≤◌};
 ghost use Rattle.array_print.specs.Words.{item_size, leaf_count, leaves_of, listed, max_items, offsets};
 ghost use Rattle.array_print.specs.inside.ItemTexts.{AreItemsAt, IsItemAt, part_text, text_at, value_texts};
 ghost use Rattle.array_print.specs.inside.Parts.{LeadsOn};
 ghost use Rattle.array_print.specs.inside.Pushed.{Pushes};
 
-use crate::padding::{push_again, push_comma, push_lead, push_record_end};
+use crate::axes::{past_ones, repeats, step_along};
+use crate::padding::{push_again, push_comma, push_few, push_lead, push_record_end};
 use crate::values::push_value;
 use crate::widths::widths_of;
 use elem_descr::{Descr, Field};
@@ -106,7 +107,7 @@ fn push_item(out: &mut Vec<u8>, items: &Items<'_>, offset: usize) -> Result<(), 
 
 /// Appends the text of the items that the axes from `axis` on lead to, starting at an offset. One
 /// bracket is open before it for each axis before `axis`. Blocks along an axis of stride 0 are all
-/// the same, so the text of one is made and copied.
+/// the same, so the text of one is made and copied. Axes of length 1 are passed over at once.
 pub fn push_block(
     out: &mut Vec<u8>,
     items: &Items<'_>,
@@ -118,6 +119,12 @@ pub fn push_block(
     ensures { Pushes (part_text items.now layout.now axis offset) result out.old out.new }
 {
     let lengths = layout.shape.as_slice();
+    let next = past_ones(lengths, axis);
+    if next > axis {
+        push_few(out, b'[', next - axis)?;
+        push_block(out, items, layout, next, offset)?;
+        return Ok(push_few(out, b']', next - axis)?);
+    }
     if axis == lengths.len() {
         return push_item(out, items, offset);
     }
@@ -175,22 +182,4 @@ pub fn print_into(
         out.truncate(before);
     }
     printed
-}
-
-/// Whether all steps along an axis lead to the same bytes.
-pub fn repeats(strides: &[isize], axis: usize) -> bool
-    requires { axis < length strides.now }
-    ensures { IsTrue result ↔ (slice_index_or strides.now axis (pos 0) ≡ pos 0) }
-{
-    strides[axis] == 0
-}
-
-/// The offset `steps` steps further along an axis.
-pub fn step_along(from: usize, strides: &[isize], axis: usize, steps: usize) -> usize
-    requires axis { axis < length strides.now }
-    requires steps { steps ≤ max_items }
-    requires leads { LeadsOn strides.now axis from steps }
-    ensures { pos result ≡ pos from +ℤ slice_index_or strides.now axis (pos 0) *ℤ pos steps }
-{
-    (from as isize + strides[axis] * steps as isize) as usize
 }

@@ -2,7 +2,7 @@
 ghost use Rattle.std.specs.Prelude.{◌≡◌, ◌⊎◌, ◌+◌, ◌≤◌, ◌<◌, ◌∷◌, ◌++◌, [], ℕ, List, pos, get_or, slice_index_or, length, max, take, drop, All, IfOk};
 ghost use Rattle.array_print.specs.Clauses.{IsNumber, size, decode, item_size, leaves_of, offsets, Fits, widths, leaf_width, leaf_widths, leaf_text, items_from, integer_at, widths_at, IsPart, part_offsets};
 
-use crate::printer::{repeats, step_along};
+use crate::axes::{past_ones, repeats, step_along};
 use elem_descr::{Descr, Scalar, num_read};
 use itoa::Buffer;
 use shape_strides::Layout;
@@ -91,6 +91,11 @@ fn widen_part(widths: &mut [usize], items: ShownItems<'_>, axis: usize, offset: 
         (seen ++ part_offsets items.entry.layout.now axis offset) }
 {
     let lengths = items.layout.shape.as_slice();
+    let next = past_ones(lengths, axis);
+    if next > axis {
+        widen_part(widths, items, next, offset);
+        return;
+    }
     if axis == lengths.len() {
         widen(widths, items.descr, items.block, offset);
         return;

@@ -1,1 +1,1 @@
-pub mod HostErrors
+pub mod Permissions

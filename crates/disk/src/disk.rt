@@ -1,6 +1,7 @@
 //! The calls of a disk.
-ghost use Rattle.std.specs.Prelude.{◌≡◌, ◌≢◌, ◌<◌, ◌≤◌, ◌++◌, ℕ, Bool, List, [], length, take, IsTrue, IfOk, OnOk, IsErrOf};
-ghost use Rattle.disk.specs.Words.{get};
+ghost use Rattle.std.specs.Prelude.{Option, ◌≡◌, ◌≢◌, ◌<◌, ◌≤◌, ◌++◌, ℕ, Bool, List, [], length, take, IsTrue, IfOk, OnOk, IsErrOf};
+ghost use Rattle.disk.specs.HostErrors.{IsAbsent, IsNoError, IsUnsupported, PassesOn};
+ghost use Rattle.disk.specs.Words.{ErrorKind, get};
 ghost use Rattle.disk.specs.Crashes.{DiskState, MayLeave};
 ghost use Rattle.disk.specs.declared.disk.DiskFault.TheVariants.{Failed, Memory};
 ghost use Rattle.disk.specs.Calls.{HasCause, IsThere, IsOpened, IsUnchanged, ChangesOnly, Moves, Appends, HasNames};
@@ -47,6 +48,9 @@ pub trait Disk {
     /// How often the disk has failed.
     ghost failures: { Self → ℕ };
 
+    /// The error with which the operating system answered last, if it did. A disk in memory has none.
+    ghost last: { Self → Option ErrorKind };
+
     /// The name under which a file was opened.
     ghost name_of: { Self.File → List ℕ };
 
@@ -59,6 +63,7 @@ pub trait Disk {
         ensures found { IsTrue honest →
             IfOk result (λ found. IsThere found (get (state self.old).files name.now)) }
         ensures same { IsTrue honest → IsUnchanged (state self.old) (state self.new) }
+        ensures passes { PassesOn Memory IsAbsent (last self.old) (last self.new) result }
         ensures cause { HasCause Failed (failures self.old) (failures self.new) result };
 
     /// Opens a file for reading, and returns how many bytes it has.
@@ -70,6 +75,7 @@ pub trait Disk {
         ensures opened { IsTrue honest →
             IfOk result (λ opened. IsOpened name_of name.now (state self.new) opened.0) }
         ensures same { IsTrue honest → IsUnchanged (state self.old) (state self.new) }
+        ensures passes { PassesOn Memory IsNoError (last self.old) (last self.new) result }
         ensures cause { HasCause Failed (failures self.old) (failures self.new) result };
 
     /// Reads the next bytes. It reads none only at the end of the file.
@@ -83,19 +89,21 @@ pub trait Disk {
         ensures opened { IsTrue honest →
             IsOpened name_of (name_of file.old) (state self.new) file.new }
         ensures same { IsTrue honest → IsUnchanged (state self.old) (state self.new) }
+        ensures passes { PassesOn Memory IsNoError (last self.old) (last self.new) result }
         ensures cause { HasCause Failed (failures self.old) (failures self.new) result };
 
-    /// Makes an empty file that is to replace another, and gives it the mode of the other. A
-    /// leftover under its name, of a program that has ended, is removed. It fails if another
-    /// program is writing under that name, or if the file to replace is not a regular file, such as
-    /// a link. Until the file, and after it the names, are synced, a crash may leave anything under
-    /// its name.
+    /// Makes an empty file that is to replace another, and that nobody may do more with than with
+    /// the other. A leftover under its name, of a program that has ended, is removed. It fails if
+    /// another program is writing under that name, or if the file to replace is not a regular file,
+    /// such as a link. Until the file, and after it the names, are synced, a crash may leave
+    /// anything under its name.
     fn create(&mut self, name: &[u8], place: &[u8]) -> Result<Self::File, DiskFault>
         ensures created { IsTrue honest → OnOk result (get (state self.new).files name.now ≡ Some []) }
         ensures opened { IsTrue honest →
             IfOk result (IsOpened name_of name.now (state self.new)) }
         ensures others { IsTrue honest →
             ChangesOnly name_of name.now (state self.old) (state self.new) }
+        ensures passes { PassesOn Memory IsNoError (last self.old) (last self.new) result }
         ensures cause { HasCause Failed (failures self.old) (failures self.new) result };
 
     /// Writes at the end of a file. Until the file, and after it the names, are synced, a crash may
@@ -110,6 +118,7 @@ pub trait Disk {
             IsOpened name_of (name_of file.old) (state self.new) file.new }
         ensures others { IsTrue honest →
             ChangesOnly name_of (name_of file.old) (state self.old) (state self.new) }
+        ensures passes { PassesOn Memory IsNoError (last self.old) (last self.new) result }
         ensures cause { HasCause Failed (failures self.old) (failures self.new) result };
 
     /// Syncs the bytes of a file to the disk.
@@ -117,6 +126,7 @@ pub trait Disk {
         requires { IsTrue honest → (state self.old).IsCurrent file.now }
         ensures synced { IsTrue honest → OnOk result ((state self.new).Synced (name_of file.now)) }
         ensures same { IsTrue honest → IsUnchanged (state self.old) (state self.new) }
+        ensures passes { PassesOn Memory IsNoError (last self.old) (last self.new) result }
         ensures cause { HasCause Failed (failures self.old) (failures self.new) result };
 
     /// Renames a file, which replaces the file that had the new name. A crash leaves one file or
@@ -131,6 +141,7 @@ pub trait Disk {
             Moves name_of from.now to.now (state self.old) (state self.new) }
         ensures memory { IsTrue honest → IsErrOf result Memory →
             (state self.new).files ≡ (state self.old).files }
+        ensures passes { PassesOn Memory IsNoError (last self.old) (last self.new) result }
         ensures cause { HasCause Failed (failures self.old) (failures self.new) result };
 
     /// Removes the file of this name, if there is one.
@@ -138,6 +149,7 @@ pub trait Disk {
         ensures removed { IsTrue honest → OnOk result (get (state self.new).files name.now ≡ None) }
         ensures others { IsTrue honest →
             ChangesOnly name_of name.now (state self.old) (state self.new) }
+        ensures passes { PassesOn Memory IsAbsent (last self.old) (last self.new) result }
         ensures cause { HasCause Failed (failures self.old) (failures self.new) result };
 
     /// Syncs the names to the disk: new ones, changed ones and removed ones.
@@ -145,6 +157,7 @@ pub trait Disk {
         ensures memory { IsErrOf result Memory → ⊥ }
         ensures names { IsTrue honest → OnOk result (HasNames (state self.old) (state self.new)) }
         ensures same { IsTrue honest → IsUnchanged (state self.old) (state self.new) }
+        ensures passes { PassesOn Memory IsUnsupported (last self.old) (last self.new) result }
         ensures cause { HasCause Failed (failures self.old) (failures self.new) result };
 
     /// A crash may leave what a read finds, so no honest disk has an empty history. Since no call

@@ -3,13 +3,10 @@ ghost use Rattle.std.specs.Prelude.{◌≡◌, ◌≤◌, [], false, IfOk, OnErr
 ghost use Rattle.disk.specs.Clauses.{empty, Failed, HasCause, HasRisen};
 
 use crate::disk::{Disk, DiskFault};
-use crate::host_calls::{
-    create_file, is_there, open_file, read_some, remove_file, rename_file, sync_file, sync_folder,
-};
+use crate::system::System;
 use std::alloc::{AllocError, Global};
 use std::fs::File;
 use std::io;
-use std::io::Write;
 use std::path::{Path, PathBuf};
 use std::rt::Files;
 
@@ -18,14 +15,15 @@ use std::rt::Files;
 /// It passes each call on to the system. No contract of the library says what a file then contains,
 /// so this disk is not honest, and nothing that `Disk` says of files and crashes is proved of it.
 /// It is trusted instead: its nine calls do what `Disk` says, as long as nobody else writes in the
-/// folder and its file system can sync a folder. If the file system cannot, `sync_names` returns
-/// `Ok` although the names may not last: a crash soon afterwards may bring the old file back.
+/// folder, it has no links, and its file system tells names apart by their bytes and can sync a
+/// folder. If the file system cannot, `sync_names` returns `Ok` although the names may not last: a
+/// crash soon afterwards may bring the old file back.
 ///
-/// It is proved that each failure is counted, and in `host_calls` which errors of the system are not
-/// failures.
+/// It is proved that each call passes on how the system's last call ended (`PassesOn`): with an
+/// error that the call does not ignore, the result is `Failed`, and is counted.
 #[derive(Drop)]
 pub struct HostDisk<'a, R: Files<File = File>> {
-    rt: &'a R,
+    system: System<'a, R>,
     alloc: Global,
     dir: String,
     failures: u64,
@@ -39,7 +37,7 @@ impl<'a, R: Files<File = File>> HostDisk<'a, R> {
         let dir = if dir.is_empty() { "." } else { dir };
         let dir = String::from_str(alloc, dir)?;
         Ok(HostDisk {
-            rt,
+            system: System::new(rt),
             alloc,
             dir,
             failures: 0,
@@ -51,6 +49,7 @@ impl<'a, R: Files<File = File>> HostDisk<'a, R> {
         ensures fault { result ≡ Failed }
         ensures counted { HasRisen self.old.failures self.new.failures }
         ensures kept { self.old.failures ≤ self.new.failures }
+        ensures unasked { self.new.system ≡ self.old.system }
     {
         self.failures = self.failures.saturating_add(1);
         DiskFault::Failed
@@ -61,6 +60,7 @@ impl<'a, R: Files<File = File>> HostDisk<'a, R> {
         ensures cause { HasCause Failed self.old.failures self.new.failures result }
         ensures ok { IfOk result (λ value. answer ≡ Ok value) }
         ensures fault { OnErr result (result ≡ Err Failed) }
+        ensures unasked { self.new.system ≡ self.old.system }
     {
         match answer {
             Ok(value) => Ok(value),
@@ -73,6 +73,7 @@ impl<'a, R: Files<File = File>> HostDisk<'a, R> {
     /// made is enough for the path by which it is renamed or removed.
     fn path(&mut self, name: &[u8]) -> Result<PathBuf, DiskFault>
         ensures cause { HasCause Failed self.old.failures self.new.failures result }
+        ensures unasked { self.new.system ≡ self.old.system }
     {
         let Ok(name) = str::from_utf8(name) else {
             return Err(self.failed());
@@ -101,6 +102,8 @@ impl<'a, R: Files<File = File>> Disk for HostDisk<'a, R> {
 
     ghost failures = { λ disk. disk.failures };
 
+    ghost last = { λ disk. disk.system.last };
+
     ghost name_of = { λ file. [] };
 
     ghost rest_of = { λ file. [] };
@@ -109,43 +112,51 @@ impl<'a, R: Files<File = File>> Disk for HostDisk<'a, R> {
 
     fn has_file(&mut self, name: &[u8]) -> Result<bool, DiskFault> {
         let path = self.path(name)?;
-        self.counted(is_there(self.rt, path.as_path()))
+        let answer = self.system.has_file(path.as_path());
+        self.counted(answer)
     }
 
     fn open(&mut self, name: &[u8]) -> Result<(File, u64), DiskFault> {
         let path = self.path(name)?;
-        self.counted(open_file(self.rt, path.as_path()))
+        let answer = self.system.open_file(path.as_path());
+        self.counted(answer)
     }
 
     fn read(&mut self, file: &mut File, piece: &mut [u8]) -> Result<usize, DiskFault> {
-        self.counted(read_some(file, piece))
+        let answer = self.system.read(file, piece);
+        self.counted(answer)
     }
 
     fn create(&mut self, name: &[u8], place: &[u8]) -> Result<File, DiskFault> {
         let (path, place) = (self.path(name)?, self.path(place)?);
-        self.counted(create_file(self.rt, path.as_path(), place.as_path()))
+        let answer = self.system.create_file(path.as_path(), place.as_path());
+        self.counted(answer)
     }
 
     fn append(&mut self, file: &mut File, bytes: &[u8]) -> Result<(), DiskFault> {
-        self.counted(file.write_all(bytes))
+        let answer = self.system.write(file, bytes);
+        self.counted(answer)
     }
 
     fn sync(&mut self, file: &File) -> Result<(), DiskFault> {
-        self.counted(sync_file(file))
+        let answer = self.system.sync(file);
+        self.counted(answer)
     }
 
     fn rename(&mut self, from: &[u8], to: &[u8]) -> Result<(), DiskFault> {
         let (from, to) = (self.path(from)?, self.path(to)?);
-        self.counted(rename_file(self.rt, from.as_path(), to.as_path()))
+        let answer = self.system.rename(from.as_path(), to.as_path());
+        self.counted(answer)
     }
 
     fn remove(&mut self, name: &[u8]) -> Result<(), DiskFault> {
         let path = self.path(name)?;
-        self.counted(remove_file(self.rt, path.as_path()))
+        let answer = self.system.remove_file(path.as_path());
+        self.counted(answer)
     }
 
     fn sync_names(&mut self) -> Result<(), DiskFault> {
-        let answer = sync_folder(self.rt, Path::new(self.dir.as_str()));
+        let answer = self.system.sync_folder(Path::new(self.dir.as_str()));
         self.counted(answer)
     }
 }

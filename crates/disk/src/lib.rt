@@ -4,6 +4,7 @@
 mod disk;
 mod host;
 mod host_calls;
+mod system;
 
 pub use disk::{Disk, DiskFault};
 pub use host::HostDisk;

@@ -1,5 +1,5 @@
 //! A disk in memory with a cache: a crash may lose what was not synced.
-ghost use Rattle.std.specs.Prelude.{◌≡◌, ◌↔◌, ◌++◌, ◌<◌, ◌≤◌, [], true, drop, length, option_copied, take, IsTrue, IfOk, OnOk};
+ghost use Rattle.std.specs.Prelude.{◌≡◌, ◌↔◌, ◌++◌, ◌<◌, ◌≤◌, [], None, true, drop, length, option_copied, take, IsTrue, IfOk, OnOk};
 ghost use Rattle.disk_tests.specs.Clauses.{empty, get, Failed, Files, Same, MayLeave, HasCause, bytes_of_change, found, is_synced, MayStand, cached_state, file_name, ChangesOnly, IsUnchanged, found_may_stay};
 
 use crate::failing::Failing;
@@ -215,6 +215,8 @@ impl Disk for CachedMemDisk {
     ghost state = { λ disk. cached_state disk.events.items };
 
     ghost failures = { λ disk. disk.failing.failures };
+
+    ghost last = { λ disk. None };
 
     ghost name_of = { file_name };
 

@@ -1,9 +1,9 @@
 -- The value of `undo` is a number from 0 to 64.
-use Rattle.std.proofs.Common.{◌≡◌, ◌≤◌, ◌<◌, ℕ, zero, suc, true, false, List, [], ◌∷◌, ◌++◌, length, Option, Some, None, Result, refl, sym, ap, subst, ◌∙◌, inl, inr, arith, codes, slice_index, unwrap_or, ◌||◌}
+use Rattle.std.proofs.Common.{◌≡◌, ◌≤◌, ◌<◌, ℕ, zero, suc, true, false, List, [], ◌∷◌, ◌++◌, length, Option, Some, None, Result, Ok, refl, sym, ap, subst, ◌∙◌, inl, inr, arith, codes, slice_index, unwrap_or, ◌||◌}
 use Rattle.std.specs.Prelude.{pos, option_map, option_and_then, slice_get}
 use Rattle.std.specs.List.{All, slice_index_or}
 use Rattle.std.specs.Str.{bytes_eq}
-use Rattle.std.specs.Str.Parse.{ParsesUnsigned}
+use Rattle.std.specs.Str.Parse.{ParsesUnsigned, digits_value, without_leading_plus}
 use Rattle.std.specs.Borrow.{Bor}
 use Rattle.std.proofs.lemmas.List.Elements.{All-get_or, All-nil}
 use Rattle.std.proofs.lemmas.Slice.Eq.{bytes_eq-Decides}
@@ -125,6 +125,21 @@ most {E} gives c m one otherwise only few h p none some = go (one_text (found_of
         let given = small c m h p text is in
         let got = signed_reads E gives 8 0 64 given.0 one (subst (λ (t : List ℕ). ReadsOne gives t one) given.1 (some text is)) only (omega arith) given.2 in
         subst (λ (o : Option ℕ). unwrap_or o otherwise ≤ 64) (sym got.1) got.3
+
+-- it is read as the number that it writes
+pub as_written : {E : Type 0} (gives : List ℕ → Result ℕ E → Type 0) (c : Command) (m : ArgMatches) (one : Option ℕ) → ((u : List ℕ) (x : Result ℕ E) → gives u x → ParsesUnsigned 8 10 u x) →
+    TakesDepth c → IsParsedFrom c m → ((one_text (found_of m) (codes "undo") ≡ None) → one ≡ None) →
+    ((text : List ℕ) → one_text (found_of m) (codes "undo") ≡ Some text → ReadsOne gives text one) →
+    unwrap_or one 16 ≡ digits_value 10 (without_leading_plus (unwrap_or (one_text (found_of m) (codes "undo")) (codes "16")))
+as_written {E} gives c m one only h p none some = go (one_text (found_of m) (codes "undo")) refl
+  where
+    go : (text : Option (List ℕ)) → one_text (found_of m) (codes "undo") ≡ text → unwrap_or one 16 ≡ digits_value 10 (without_leading_plus (unwrap_or text (codes "16")))
+    go None is = subst (λ (o : Option ℕ). unwrap_or o 16 ≡ 16) (sym (none is)) refl
+    go (Some text) is =
+        let given = small c m h p text is in
+        let got = signed_reads E gives 8 0 64 given.0 one (subst (λ (t : List ℕ). ReadsOne gives t one) given.1 (some text is)) only (omega arith) given.2 in
+        let reads : gives text (Ok got.0) = subst (ReadsOne gives text) got.1 (some text is) in
+        subst (λ (o : Option ℕ). unwrap_or o 16 ≡ digits_value 10 (without_leading_plus text)) (sym got.1) (only text (Ok got.0) reads).1
 
 named : (name : List ℕ) (a b : Arg) → SameRules a b → IsNamed name a → IsNamed name b
 named name a b rules n = record {

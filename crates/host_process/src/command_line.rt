@@ -1,5 +1,7 @@
 //! The arguments of the command line, and the help.
-ghost use Rattle.std.specs.Prelude.{◌≤◌, codes, IfOk, IfErr};
+ghost use Rattle.std.specs.Prelude.{◌≡◌, ◌≤◌, ℕ, List, codes, map, option_map, string_bytes, IfOk, IfErr};
+ghost use Rattle.clap.specs.Words.{app_of, rule_of};
+ghost use Rattle.host_process.specs.CommandLine.{AreSaid, command_line, dir_rule, script_rule, undo_rule};
 ghost use Rattle.host_process.specs.inside.Depths.{IsDepth, IsNamed, TakesDepth};
 ghost use Rattle.host_process.specs.Faults.{IsToldApart};
 
@@ -62,7 +64,8 @@ const NO_TEXT: &str = "invalid UTF-8 was detected in one or more arguments";
 
 /// The argument that names the folder.
 fn folder_argument<'a>(alloc: Global) -> Arg<'a>
-    ensures { IsNamed (codes "dir") result }
+    ensures named { IsNamed (codes "dir") result }
+    ensures rule { rule_of result ≡ dir_rule }
 {
     Arg::new(alloc, "dir")
         .long("dir")
@@ -73,7 +76,8 @@ fn folder_argument<'a>(alloc: Global) -> Arg<'a>
 
 /// The argument for how many earlier states are kept.
 fn depth_argument<'a>(alloc: Global) -> Arg<'a>
-    ensures { IsDepth result }
+    ensures depth { IsDepth result }
+    ensures rule { rule_of result ≡ undo_rule }
 {
     Arg::new(alloc, "undo")
         .long("undo")
@@ -85,7 +89,8 @@ fn depth_argument<'a>(alloc: Global) -> Arg<'a>
 
 /// The argument that names the script.
 fn script_argument<'a>(alloc: Global) -> Arg<'a>
-    ensures { IsNamed (codes "script") result }
+    ensures named { IsNamed (codes "script") result }
+    ensures rule { rule_of result ≡ script_rule }
 {
     Arg::new(alloc, "script").value_name("SCRIPT").help(
         "The script, one command per line [default: standard input]",
@@ -94,7 +99,8 @@ fn script_argument<'a>(alloc: Global) -> Arg<'a>
 
 /// The command line of the program.
 fn command<'a>(alloc: Global) -> Result<Command<'a>, AllocError>
-    ensures { IfOk result TakesDepth }
+    ensures takes { IfOk result TakesDepth }
+    ensures line { IfOk result (λ command. app_of command ≡ command_line) }
 {
     Command::new(alloc, "bench")
         .bin_name("bench")?
@@ -130,17 +136,29 @@ fn given_words<R: Env + AllocGlobal>(rt: &R) -> Result<Vec<String>, OptionsFault
     }
 }
 
-/// Reads the arguments of the program.
+/// Reads the arguments of the program. No contract of the library says which words it was given.
 pub fn given_options<R: Env + AllocGlobal>(rt: &R) -> Result<Options, OptionsFault>
+    ensures said { IfOk result (λ options. (words : List (List ℕ)) × AreSaid words options) }
     ensures depth { IfOk result (λ options. options.depth ≤ 64) }
     ensures told { IfErr result IsToldApart }
 {
     options(rt.alloc(), given_words(rt)?.as_slice())
 }
 
+/// A copy of a text, if there is one.
+fn copied(alloc: Global, text: Option<&str>) -> Result<Option<String>, AllocError>
+    ensures { IfOk result (λ copy. option_map string_bytes copy ≡ option_map (λ t. t.now) text.entry) }
+{
+    match text {
+        Some(text) => Ok(Some(String::from_str(alloc, text)?)),
+        None => Ok(None),
+    }
+}
+
 /// Reads arguments, of which the first is the program's own name. A request for help is an error
 /// too, as in `clap`.
 fn options(alloc: Global, words: &[String]) -> Result<Options, OptionsFault>
+    ensures said { IfOk result (AreSaid (map string_bytes words.now)) }
     ensures depth { IfOk result (λ options. options.depth ≤ 64) }
     ensures told { IfErr result IsToldApart }
 {
@@ -154,9 +172,7 @@ fn options(alloc: Global, words: &[String]) -> Result<Options, OptionsFault>
     Ok(Options {
         depth: usize::from(depth),
         dir: String::from_str(alloc, dir)?,
-        script: script
-            .map(|text| String::from_str(alloc, text))
-            .transpose()?,
+        script: copied(alloc, script)?,
     })
 }
 

@@ -1,9 +1,30 @@
-use Rattle.std.proofs.Common.{◌≡◌, ◌+◌, ◌*◌, ◌<◌, ◌++◌, pos, ◌+ℤ◌, ◌*ℤ◌, get_or, length, take, drop, sym, ap, ◌∙◌, arith, append_assoc, take-add, take_all}
-use Rattle.array_print.proofs.Words.{append-nil, count, widths_at, part_offsets}
+use Rattle.std.proofs.Common.{◌≡◌, ◌+◌, ◌*◌, ◌-◌, ◌<◌, ◌≤◌, ◌++◌, ℕ, pos, ◌+ℤ◌, ◌*ℤ◌, get_or, length, take, drop, sym, ap, ◌∙◌, arith, append_assoc, take-add, take_all}
+use Rattle.array_print.proofs.Words.{append-nil, count, item_size, widths_at, part_offsets}
 use Rattle.array_print.proofs.PartLaws.{part-some, part-leads, part-inner, part-block, length-part, part-item, part-item-inside}
+use Rattle.array_print.proofs.OneLaws.{ones-part, ones-offsets}
 use Rattle.array_print.proofs.RepeatLaws.{count-outer, widths-of-one}
 use Rattle.array_print.proofs.widths.+widen_part.Goals as goal
 use Rattle.array_print.proofs.widths.+widen_part.Goals.{then-repeats, else-repeats}
+
+-- the axes that are passed over have length 1
+pub widen_part-requires : goal.widen_part-requires
+widen_part-requires t c =
+    let l = c.args.items.layout.now in
+    let next = c.past_ones-next.result in
+    let within : next ≤ length l.shape = omega (arith, ap length c.as_slice-lengths.ensures.value, c.past_ones-next.ensures.within) in
+    let passed : c.args.axis + (next - c.args.axis) ≡ next = omega (arith, c.past_ones-next.ensures.from) in
+    let ones : (k : ℕ) → c.args.axis ≤ k → k < next → get_or l.shape k 0 ≡ 1 = λ k from to. ap (λ s. get_or s k 0) (sym c.as_slice-lengths.ensures.value) ∙ c.past_ones-next.ensures.ones k from to in
+    (omega (arith, c.decreases, c.if-next-axis.true, within), (c.requires.leaves, ones-part l c.args.offset _ _ (next - c.args.axis) c.args.axis next passed within ones c.requires.part))
+
+pub returns-then-next-axis : goal.returns-then-next-axis
+returns-then-next-axis t c = λ seen is.
+    let l = c.args.items.layout.now in
+    let next = c.past_ones-next.result in
+    let within : next ≤ length l.shape = omega (arith, ap length c.as_slice-lengths.ensures.value, c.past_ones-next.ensures.within) in
+    let passed : c.args.axis + (next - c.args.axis) ≡ next = omega (arith, c.past_ones-next.ensures.from) in
+    let ones : (k : ℕ) → c.args.axis ≤ k → k < next → get_or l.shape k 0 ≡ 1 = λ k from to. ap (λ s. get_or s k 0) (sym c.as_slice-lengths.ensures.value) ∙ c.past_ones-next.ensures.ones k from to in
+    let same = ones-offsets l c.args.offset (length c.args.items.block.now) (item_size c.args.items.descr.now) (next - c.args.axis) c.args.axis next passed within ones c.requires.part in
+    c.widen_part.ensures seen is ∙ ap (λ os. widths_at c.args.items.descr.now c.args.items.block.now (seen ++ os)) (sym same)
 
 pub widen-requires-clause-inside : goal.widen-requires-clause-inside
 widen-requires-clause-inside t c =
@@ -35,8 +56,8 @@ step_along-requires-clause-leads t c =
     let low : c.loop-k.k < get_or l.shape c.args.axis 0 = omega (arith, c.loop-k-test.true, c.loop-k.invariant.few) in
     part-leads l c.args.axis c.args.offset _ _ below c.requires.part c.loop-k.k _ low c.as_slice-strides.ensures
 
-pub widen_part-requires : goal.widen_part-requires
-widen_part-requires t c =
+pub widen_part-requires-in-loop-k : goal.widen_part-requires-in-loop-k
+widen_part-requires-in-loop-k t c =
     let l = c.args.items.layout.now in
     let below : c.args.axis < length l.shape = omega (arith, c.if-axis-lengths.false, ap length c.as_slice-lengths.ensures.value, c.requires.part.axes) in
     let low : c.loop-k.k < get_or l.shape c.args.axis 0 = omega (arith, c.loop-k-test.true, c.loop-k.invariant.few) in
@@ -56,7 +77,7 @@ loop-k-preserved t c =
     let more : k * inner + inner ≡ (k + 1) * inner = omega arith in
     record {
       few = c.loop-k.invariant.few;
-      wide = λ seen is. c.widen_part.ensures (seen ++ take (k * inner) offsets) (c.loop-k.invariant.wide seen is)
+      wide = λ seen is. c.widen_part-in-loop-k.ensures (seen ++ take (k * inner) offsets) (c.loop-k.invariant.wide seen is)
           ∙ ap (λ os. wide ((seen ++ take (k * inner) offsets) ++ os)) (sym (part-block l c.args.axis c.args.offset _ _ below c.requires.part k c.step_along.result low is_at))
           ∙ ap wide (append_assoc seen (take (k * inner) offsets) (take inner (drop (k * inner) offsets)))
           ∙ ap (λ os. wide (seen ++ os)) (sym (take-add (k * inner) inner offsets))

@@ -1,0 +1,86 @@
+/* What the toolchain's C part (libos_c.a, liblibc_c.a) is for x86-64, for another machine: the calls of the program's system layer that
+ * are not the C library's own, and the start of the program. Their contracts are in the toolchain's crates os and libc. It is compiled
+ * without headers, so that the same sources give the same bytes everywhere. */
+typedef __SIZE_TYPE__ size_t;
+typedef __INTPTR_TYPE__ ssize_t;
+
+void *malloc(size_t);
+void *realloc(void *, size_t);
+void free(void *);
+int *__errno_location(void);
+int __libc_start_main(int (*)(int, char **, char **), int, char **, void (*)(void), void (*)(void), void (*)(void), void *);
+int main(int, char **, char **);
+
+/* A block, or none: then the pointer is to no byte, and not NULL. */
+struct tried {
+    size_t ok;
+    void *at;
+};
+
+static size_t none[2];
+
+static struct tried of(void *block)
+{
+    return (struct tried){block != 0, block ? block : none};
+}
+
+struct tried rattle_alloc(size_t size, size_t align)
+{
+    return of(malloc(size ? size : align));
+}
+
+struct tried rattle_realloc(void *old, size_t kept, size_t size, size_t align)
+{
+    (void)kept;
+    return of(realloc(old, size ? size : align));
+}
+
+void rattle_dealloc(void *block)
+{
+    free(block);
+}
+
+int rattle_errno(void)
+{
+    return *__errno_location();
+}
+
+void rattle_set_errno(int error)
+{
+    *__errno_location() = error;
+}
+
+static size_t count;
+static char **words;
+
+size_t rattle_arg_count(void)
+{
+    return count;
+}
+
+/* Copies a word, without the zero byte at its end: its length, -1 if there is none, -2 if there is no room for it. */
+ssize_t rattle_arg(size_t number, char *out, size_t room)
+{
+    const char *word = number < count ? words[number] : 0;
+    if (!word) return -1;
+    size_t length = 0;
+    for (; word[length]; length++) {
+        if (length == room) return -2;
+        out[length] = word[length];
+    }
+    return (ssize_t)length;
+}
+
+/* The system starts a program with the count of its words and then their addresses on the stack. */
+static __attribute__((noreturn, used)) void begin(size_t *stack, void (*at_end)(void))
+{
+    count = stack[0];
+    words = (char **)(stack + 1);
+    __libc_start_main(main, (int)count, words, 0, 0, at_end, stack);
+    __builtin_trap();
+}
+
+__attribute__((naked, noreturn)) void rattle_start(void)
+{
+    __asm__("mov x29, #0\n\tmov x30, #0\n\tmov x1, x0\n\tmov x0, sp\n\tb %c0" : : "i"(begin));
+}
