@@ -411,7 +411,8 @@ class InBrowser:
         page.key("Tab")
         page.wait(f"script.value === 'a = arange <i4 0 6 1\\nupd a[...] add 1' && ({RAN})")
         for line, hint in (("m = reshape a (4,-1)", "a is <i4 (6,): 6 items, and 4 does not divide that"), ("set a[:2] = a[:3]", "a[:2] has shape (2,), a[:3] has shape (3,): aligned"),
-                           ("b = a[6]", "axis 0 of a has length 6: 6 is outside, -6 to 5 are within"), ("x = 1.5", "There are no floats")):
+                           ("b = a[6]", "axis 0 of a has length 6: 6 is outside, -6 to 5 are within"), ("x = 1.5", "There are no floats"),
+                           ("x = a[1]", "A view of one item; in NumPy it is a copy (`copy x C`)")):
             self.typed(page, f"a = arange <i4 0 6 1\n{line}")
             page.wait(f"hint.textContent.toLowerCase().startsWith({json.dumps(hint.lower())})")
         self.assertEqual(self.browser.faults, [])
