@@ -93,7 +93,11 @@ class Numbers {
   indexOf(operand) { const [name, ...rest] = operand.replace(/[\] \t]+$/, "").split("["), index = rest.join("["); return { name: name.trim(), index, entries: index.split(",").map(each => each.trim()) }; }
 
   e04() { const { D } = this.text, type = this.rules.type(D); return type ? `write ${type} instead of ${D}` : `${D.slice(0, 60)} is not a type such as <i4, |u1, |b1, |S5 or T{<i:x:<h:y:}`; }
-  e05() { const { D } = this.text, type = this.rules.type(D); return type ? `write ${type} instead of ${D}` : /^(?:float|complex|double|single|half)\d*$|^[<>|=]?[fc](2|4|8|16)$/.test(D) ? "there are no floats" : ""; }
+
+  e05() {
+    const { D } = this.text, type = this.rules.type(D), what = this.rules.NO_KIND[D.replace(/^[<>|=]+/, "")[0]];
+    return type ? `write ${type} instead of ${D}` : what ? `the type is not supported: there are no ${what}` : "";
+  }
 
   e09() {
     const lengths = this.lengths(this.text.S || this.text["S-"]), most = Math.max(...lengths), count = product(lengths);

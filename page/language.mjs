@@ -2,6 +2,7 @@
 import { Rules } from "./tried.mjs";
 
 const TYPES = ["|b1", "|i1", "<i2", "<i4", "<i8", "|u1", "<u2", "<u4", "<u8", "|S8", "T{<i:x:<h:y:}"];
+const ONE_ITEM = /^\s*(\w+)\s*=\s*\w+\[[-+\d,\s]+\]\s*$/;
 const TOKENS = /(#.*)|(b'(?:[^'\\]|\\.)*'?|"[^"]*"?)|([A-Za-z_]\w*)|([+-]?\d+)/g;
 
 /** A line read as each form of a command, with the parts of the form that fits: `far` is the place up to which it reads as some form, and `wanted` what may stand there, each with
@@ -106,6 +107,12 @@ export class Language {
     }
     if (reply.code === "E06") return { offered, text: this.unbound(line, names) ?? this.codes.E06[1] };
     return { offered, text: told[0] ?? this.codes[reply.code]?.[1] ?? "" };
+  }
+
+  /** What differs from NumPy after a line that binds a name to one item. */
+  oneItem({ line, after }) {
+    const array = after.names.get(ONE_ITEM.exec(line)?.[1])?.array;
+    return array && !array.shape.length && !array.type.startsWith("T") ? `a view of one item; in NumPy it is a copy (\`copy ${array.name} C\`)` : "";
   }
 
   /** Which word of a line is not bound. */

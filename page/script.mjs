@@ -61,12 +61,19 @@ export class Script {
     while (this.kept.length && this.kept.at(-1).count > line) this.kept.pop();
     const last = this.kept.at(-1), { trace } = this;
     if (!last) { this.restart(); return; }
+    if (this.calls.memory.buffer.byteLength > last.memory.length) this.shrink(last.memory.length);
     new Uint8Array(this.calls.memory.buffer).set(last.memory);
-    for (const [k, bench] of [trace.bench, trace.second].entries()) Object.assign(bench, last.rooms[k]);
+    for (const [k, bench] of [trace.bench, trace.second].entries()) Object.assign(bench, last.rooms[k], { calls: this.calls });
     Object.assign(trace, last.held, { kept: [...last.held.kept] });
     this.moments.length = last.count;
     for (const key of [...this.hues.keys()].slice(last.hues)) this.hues.delete(key);
     this.saved = this.saved.filter(({ line: of }) => of < last.count);
+  }
+
+  /** Another program with so much memory: that of one never becomes less. */
+  shrink(size) {
+    this.calls = new WebAssembly.Instance(this.module, {}).exports;
+    this.calls.memory.grow(Math.max(0, size - this.calls.memory.buffer.byteLength) >> 16);
   }
 
   /** Runs a script: the first lines of the one before, and then others. It runs from the line that has changed, pauses when the wanted line
@@ -102,7 +109,10 @@ export class Script {
     }
   }
 
-  hint(moment) { return moment.reply.accepted ? { text: "", offered: [] } : this.language.hint(moment, this.hints, name => this.trace.bench.files.get(name)); }
+  /** What is said beside a reply, and the lines that are offered. */
+  hint(moment) {
+    return moment.reply.accepted ? { text: this.language.oneItem(moment), offered: [] } : this.language.hint(moment, this.hints, name => this.trace.bench.files.get(name));
+  }
 
   /** What stands beside some lines: of each whether it is accepted, its reply in short, where it stops being a command, and the colours of its names. */
   rows(first, last) {

@@ -172,6 +172,10 @@ await script.run(2, ["set b[1] = 4", "print a"]);
 ran.splice(0);
 await script.run(2, ["set b[1] = 5", "print a"]);
 told.push(seen(3), ran.splice(0), (await script.run(4, ["names"], 4)).count, ran.splice(0));
+await script.run(4, ["big = zeros <i8 (10000000)", "print a"]);
+const grown = script.calls.memory.buffer.byteLength;
+await script.run(4, ["set a[0] = 8", "print a"]);
+told.push(grown > 80_000_000, script.calls.memory.buffer.byteLength < 10_000_000, seen(5));
 script.trace.second.answer = () => ({ accepted: false, code: "E40", meaning: "out of memory", text: "no E40 out of memory" });
 await script.run(4, ["set a[0] = 9", "print a"]);
 told.push(seen(4), seen(5).slice(0, 2));
@@ -187,7 +191,7 @@ console.log(JSON.stringify(told));
         blind = "There is no room left to draw the memory of this line."
         self.assertEqual(json.loads(done.stdout), [
             ["[0 7 2]", "Nothing changes.", True], [1, 4, "7", "1", "", "a[1], b[0]"], "Byte 4 of buffer 1 (07 00 00 00), before 1: a[1] is 7, b[0] is 7", 2, [0, 1, 2, 3],
-            ["[0 1 5]", "Nothing changes.", True], [2, 3], 4, [], ["ok set 1", blind, True], ["[9 1 5]", blind],
+            ["[0 1 5]", "Nothing changes.", True], [2, 3], 4, [], True, True, ["[8 1 5]", "Nothing changes.", True], ["ok set 1", blind, True], ["[9 1 5]", blind],
             "The program stopped in line 7 (its stack overflowed). It starts again with the next change of the script.", "", "[1 5]",
             ["ok save 140", blind], "[9 1 5]", 140])
 
@@ -407,7 +411,8 @@ class InBrowser:
         page.key("Tab")
         page.wait(f"script.value === 'a = arange <i4 0 6 1\\nupd a[...] add 1' && ({RAN})")
         for line, hint in (("m = reshape a (4,-1)", "a is <i4 (6,): 6 items, and 4 does not divide that"), ("set a[:2] = a[:3]", "a[:2] has shape (2,), a[:3] has shape (3,): aligned"),
-                           ("b = a[6]", "axis 0 of a has length 6: 6 is outside, -6 to 5 are within"), ("x = 1.5", "There are no floats")):
+                           ("b = a[6]", "axis 0 of a has length 6: 6 is outside, -6 to 5 are within"), ("x = 1.5", "There are no floats"),
+                           ("x = a[1]", "A view of one item; in NumPy it is a copy (`copy x C`)")):
             self.typed(page, f"a = arange <i4 0 6 1\n{line}")
             page.wait(f"hint.textContent.toLowerCase().startsWith({json.dumps(hint.lower())})")
         self.assertEqual(self.browser.faults, [])
