@@ -22,11 +22,11 @@ abbrev pub command_line : App
 command_line = with_rule (with_rule (with_rule (new_app (codes "bench")) dir_rule) undo_rule) script_rule
 
 -- the values that words give the arguments, where the first word is the program's own name
-abbrev pub given : List Text → List Row
-given words = matches_of command_line words
+abbrev pub rows_said : List Text → List Row
+rows_said words = matches_of command_line words
 
 -- The options are what these words say.
 pub record AreSaid (words : List Text) (options : Options) : Type 0 where
-  pub dir : string_bytes options.dir ≡ unwrap_or (first_of (codes "dir") (given words)) (codes ".")
-  pub depth : options.depth ≡ digits_value 10 (without_leading_plus (unwrap_or (one_of (codes "undo") (given words)) (codes "16")))
-  pub script : option_map string_bytes options.script ≡ first_of (codes "script") (given words)
+  pub dir : string_bytes options.dir ≡ unwrap_or (first_of (codes "dir") (rows_said words)) (codes ".")
+  pub depth : options.depth ≡ digits_value 10 (without_leading_plus (unwrap_or (one_of (codes "undo") (rows_said words)) (codes "16")))
+  pub script : option_map string_bytes options.script ≡ first_of (codes "script") (rows_said words)
