@@ -1,12 +1,13 @@
 """docs/C.md: each program of the page is compiled, each command is run in its order, and prints what the page says."""
 import os
+import pathlib
 import re
 import shutil
 import subprocess
 import unittest
 
 from trials.companion_trials import InFolder, TOP, needs_compiler, needs_program
-from trials.library_trials import SHARED, needs_arrays
+from trials.library_trials import ARCHIVE, SHARED, needs_arrays
 
 PAGE = (TOP / "docs/C.md").read_text()
 SPLIT = re.split(r"^##? (.*)\n", PAGE, flags=re.M)
@@ -75,6 +76,23 @@ class Page(InFolder):
     @unittest.skipUnless(shutil.which("c++"), "there is no C++ compiler")
     def test_cpp(self):
         self.runs(SECTIONS["C++"])
+
+
+XTENSOR = pathlib.Path("/usr/include/xtensor/xtensor_config.hpp")
+
+
+@needs_arrays
+@unittest.skipUnless(shutil.which("c++"), "there is no C++ compiler")
+@unittest.skipUnless(XTENSOR.is_file(), "xtensor is not installed")
+class Library(InFolder):
+    def test_array_library_in_cpp(self):
+        """The example finds two faults of xtensor that docs/FINDINGS.md has, and no other."""
+        made = self.folder / "made"
+        subprocess.run(["c++", "-std=c++17", f"-I{TOP / 'library'}", TOP / "examples/cpp/xtensor_test.cpp", ARCHIVE, "-o", made], check=True)
+        ran = subprocess.run([made], capture_output=True, text=True, check=False)
+        self.assertRegex(ran.stdout, r"\A(.*: xtensor (differs|has too few).*\n)*\d of 4 differ\n\Z")
+        if "XTENSOR_VERSION_MINOR 24" in XTENSOR.read_text():
+            self.assertEqual([line.partition(":")[0] for line in ran.stdout.splitlines()], ["set a[:] = a[0:1]", "a = argmax b 0 keep", "2 of 4 differ"])
 
 
 class Words(unittest.TestCase):
