@@ -84,7 +84,7 @@ int bench_file(struct bench_handle *bench, const void *name, size_t name_length,
 
 /* ---- Arrays. These calls answer lines of their own, `info`, `save` and `load`, and so ask nothing more of the proved calls. */
 
-enum { LONGEST_NAME = 32, LONGEST_HEADER = 2048 };
+enum { LONGEST_NAME = 32, LONGEST_TYPE = 7, LONGEST_HEADER = 2048 };
 static const char FILE_NAME[] = "bench_array";
 
 /* A text that is made piece by piece. What has no room is left out. */
@@ -306,7 +306,7 @@ int bench_items(struct bench_handle *bench, const void *name, size_t name_length
 static size_t width_of(const char *type, size_t length)
 {
     size_t width = 0, at = length > 0 && !is_word(type, 1);
-    if (!is_word(type + at, length - at)) return 0;
+    if (length > LONGEST_TYPE || !is_word(type + at, length - at)) return 0;
     for (at++; at < length && type[at] >= '0' && type[at] <= '9' && width < 65536; at++) width = 10 * width + (size_t)(type[at] - '0');
     return at == length ? width : 0;
 }

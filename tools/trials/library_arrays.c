@@ -134,6 +134,7 @@ static void asked(void)
 static void given(void)
 {
     static const size_t many[65] = {1};
+    char type[2001] = "S";
     put("g", "<i4", 2, SHAPE(1, 2), "\1\0\0\0\xff\xff\xff\xff", 8);
     is("g", "<i4", 2, SHAPE(1, 2), 1);
     has("g", 2, ITEMS(1, -1));
@@ -155,6 +156,10 @@ static void given(void)
     assert(replies("no E03 syntax"));
     MADE(BENCH_REFUSED, bench_put_array(&bench, "g", 1, "|b1", 3, many, 65, NULL, 0));
     assert(replies("no E08 too many axes"));
+    for (size_t count = 6; count <= 2000; count += 1 + count / 7) {
+        memset(type + 1, '0', count);
+        assert(bench_put_array(&bench, "g", 1, type, count, SHAPE(1), 1, "", 0) == BENCH_REFUSED);
+    }
     has("g", 2, ITEMS(1, -1));
 }
 
