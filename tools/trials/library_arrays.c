@@ -50,9 +50,9 @@ static int lacks_memory(int status)
 /* The status of a call, which is made again if memory was refused meanwhile. */
 #define MADE(status, call) \
     do { \
-        int before = refused, result = (call); \
-        if (!before && refused && lacks_memory(result)) result = (call); \
-        assert(result == (status)); \
+        int before = refused, made = (call); \
+        if (!before && refused && lacks_memory(made)) made = (call); \
+        assert(made == (status)); \
     } while (0)
 
 static void line(const char *text)
@@ -158,7 +158,7 @@ static void given(void)
     assert(replies("no E08 too many axes"));
     for (size_t count = 6; count <= 2000; count += 1 + count / 7) {
         memset(type + 1, '0', count);
-        assert(bench_put_array(&bench, "g", 1, type, count, SHAPE(1), 1, "", 0) == BENCH_REFUSED);
+        MADE(BENCH_REFUSED, bench_put_array(&bench, "g", 1, type, count, SHAPE(1), 1, "", 0));
     }
     has("g", 2, ITEMS(1, -1));
 }
