@@ -137,10 +137,14 @@ struct known {
     size_t length, type, shape, end;
 };
 
+static int begin_with(const char *bytes, const char *text)
+{
+    while (*text && *bytes == *text) bytes++, text++;
+    return !*text;
+}
+
 static int know(struct bench_handle *bench, const char *name, size_t name_length, struct known *known)
 {
-    static const char strides[] = " strides (";
-    size_t at, k;
     int status = ask(bench, "info ", name, name_length, "");
     if (status != BENCH_OK) return status;
     bench_c_reply(bench, (uint8_t *)&none, 0, &known->length);
@@ -148,9 +152,9 @@ static int know(struct bench_handle *bench, const char *name, size_t name_length
     if (!known->reply) return BENCH_NO_MEMORY;
     bench_c_reply(bench, (uint8_t *)known->reply, known->length, &known->length);
     known->type = sizeof "info" + name_length + 1;
-    for (at = known->length - (sizeof strides - 1), k = 0; k < sizeof strides - 1; at -= k < sizeof strides - 1)
-        for (k = 0; k < sizeof strides - 1 && known->reply[at + k] == strides[k];) k++;
-    for (known->end = known->shape = at; known->reply[known->shape] != '(';) known->shape--;
+    known->end = known->length - sizeof " strides (";
+    while (!begin_with(known->reply + known->end, " strides (")) known->end--;
+    for (known->shape = known->end; known->reply[known->shape] != '(';) known->shape--;
     return BENCH_OK;
 }
 
@@ -208,22 +212,18 @@ struct saved {
     int is_fortran;
 };
 
-/* Whether a header of `save` says that the items are in Fortran order. No name of a field has a quotation mark or a colon. */
-static int says_fortran(const uint8_t *header, size_t length)
+/* Whether a header of `save` says that the items are in Fortran order. It ends with a newline, and no name of a field in it has a
+ * quotation mark or a colon. */
+static int says_fortran(const char *header)
 {
-    static const char words[] = "'fortran_order': True";
-    for (size_t at = 0; at + sizeof words - 1 <= length; at++) {
-        size_t k = 0;
-        while (k < sizeof words - 1 && header[at + k] == (uint8_t)words[k]) k++;
-        if (k == sizeof words - 1) return 1;
-    }
-    return 0;
+    while (*header != '\n' && !begin_with(header, "'fortran_order': True")) header++;
+    return *header != '\n';
 }
 
 static int save(struct bench_handle *bench, const char *name, size_t name_length, struct saved *saved)
 {
     const uint8_t *file = (const uint8_t *)FILE_NAME;
-    size_t length, front;
+    size_t length, text, front;
     int status = ask(bench, "save ", name, name_length, " \"bench_array\"");
     if (status != BENCH_OK) return status;
     bench_c_get(bench, file, sizeof FILE_NAME - 1, (uint8_t *)&none, 0, &length);
@@ -231,12 +231,12 @@ static int save(struct bench_handle *bench, const char *name, size_t name_length
     if (saved->file) bench_c_get(bench, file, sizeof FILE_NAME - 1, saved->file, length, &length);
     bench_put(bench, FILE_NAME, sizeof FILE_NAME - 1, NULL, 0, NULL, 0);
     if (!saved->file) return BENCH_NO_MEMORY;
-    front = saved->file[8] + 256 * (size_t)saved->file[9] + 10;
-    if (saved->file[6] == 2) front = saved->file[8] + 256 * (size_t)saved->file[9] + 65536 * (size_t)saved->file[10] + 12;
+    text = saved->file[6] == 2 ? 12 : 10;
+    front = text + saved->file[8] + 256 * (size_t)saved->file[9] + (text == 12 ? 65536 * (size_t)saved->file[10] : 0);
     saved->items = saved->file + front;
     saved->length = length - front;
     saved->width = saved->array.items ? saved->length / saved->array.items : 0;
-    saved->is_fortran = says_fortran(saved->file, front);
+    saved->is_fortran = says_fortran((const char *)saved->file + text);
     return BENCH_OK;
 }
 
