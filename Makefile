@@ -53,7 +53,8 @@ reads = man/bench.1:share/man/man1/bench.1 man/bench-tool.1:share/man/man1/bench
 	$(call below,companion/bench_tool,lib/bench-tool/bench_tool) docs/LANGUAGE.md:lib/bench-tool/LANGUAGE.md \
 	$(foreach file,$(wildcard dist/bench.html),$(file):lib/bench-tool/bench.html) \
 	$(foreach file,$(wildcard README.md CHANGELOG.md LICENSE* docs/*.md docs/pictures/*),$(file):share/doc/bench/$(file)) \
-	$(if $(library),$(library):lib/libbench.so.1 library/bench.h:include/bench.h library/bench.pc:lib/pkgconfig/bench.pc) \
+	$(if $(library),$(library):lib/libbench.so.1 library/bench.h:include/bench.h library/bench.pc:lib/pkgconfig/bench.pc \
+		library/bench_test.hpp:include/bench_test.hpp library/bench-config.cmake:lib/cmake/bench/bench-config.cmake) \
 	$(foreach file,$(wildcard $(library:.so.1=.a)),$(file):lib/libbench.a) \
 	$(if $(filter dist/libbench.so.1,$(library)),$(foreach file,$(wildcard dist/$(v3)),$(file):lib/$(v3)))
 

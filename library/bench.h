@@ -24,6 +24,7 @@
 #define BENCH_H
 
 #include <stddef.h>
+#include <stdint.h>
 
 #ifdef __cplusplus
 extern "C" {
@@ -31,9 +32,9 @@ extern "C" {
 
 enum bench_status {
     BENCH_OK = 0,        /* Success. From bench_answer: the command was accepted. */
-    BENCH_REFUSED = 1,   /* bench_answer: the line was refused. The reply says why, and nothing changed. */
+    BENCH_REFUSED = 1,   /* bench_answer and the calls for arrays: refused. The reply says why, and nothing changed. */
     BENCH_NOTHING = 2,   /* bench_answer: the line is blank or a comment. The reply is empty. */
-    BENCH_NO_MEMORY = 3, /* bench_open, bench_put: out of memory. Nothing changed. */
+    BENCH_NO_MEMORY = 3, /* bench_open, bench_put and the calls for arrays: out of memory. Nothing changed. */
     BENCH_TOO_LONG = 4,  /* bench_put: the file would be longer than 2^29 bytes. Nothing changed. */
     BENCH_NO_FILE = 5,   /* bench_get: there is no file with this name. bench_file: there is no further name. */
     BENCH_NO_ROOM = 6,   /* The buffer is too small. Nothing was copied, and *length is the length that is needed. */
@@ -51,7 +52,8 @@ struct bench_handle {
 int bench_open(size_t depth, struct bench_handle *bench);
 
 /* Answers one line of a script, given without its newline: BENCH_OK, BENCH_REFUSED or BENCH_NOTHING. A line longer than
- * 65,536 bytes is refused. So is a command for which there is no memory: its reply is "no E40 out of memory". */
+ * 65,536 bytes is refused. So is a line with a carriage return at its end, "no E02 byte not allowed"; the program, which reads
+ * scripts, takes it as a part of the newline. So is a command for which there is no memory: "no E40 out of memory". */
 int bench_answer(struct bench_handle *bench, const void *line, size_t line_length);
 
 /* Copies the reply to the last line, without a newline at its end, to `out`, which has room for `room` bytes, and sets
@@ -73,6 +75,40 @@ int bench_get(struct bench_handle *bench, const void *name, size_t name_length, 
 /* Copies the name of the first file after `name`, in the order of their bytes, to `out`, and sets *length as bench_get does.
  * To list all files, begin with the empty name and pass each name to the next call, until BENCH_NO_FILE. */
 int bench_file(struct bench_handle *bench, const void *name, size_t name_length, void *out, size_t room, size_t *length);
+
+/* The calls for arrays take the name of an array in place of a line. If they are refused, the status is BENCH_REFUSED, and the reply
+ * says why, as that of a line does: "no E06 unknown name". Otherwise the reply is one of `info`, `save` or `load`, which these
+ * calls make. They use the file bench_array, and leave it empty. */
+
+enum { BENCH_MAX_AXES = 64 };
+
+/* What bench_info knows about an array. */
+struct bench_array {
+    size_t axes;                  /* The number of axes. */
+    size_t shape[BENCH_MAX_AXES]; /* The length of each axis. */
+    size_t items;                 /* The number of items, which is the product of the lengths. */
+    int is_writable;              /* 0 if the array is read-only, as a broadcast one is. */
+};
+
+/* Sets *array to what is known about an array. */
+int bench_info(struct bench_handle *bench, const void *name, size_t name_length, struct bench_array *array);
+
+/* Copies the type of an array, such as "<i4" or the format of a record, to `out`, and sets *length as bench_reply does. */
+int bench_type(struct bench_handle *bench, const void *name, size_t name_length, void *out, size_t room, size_t *length);
+
+/* Copies the items of an array of bools or integers to `out`, in C order, each as an int64_t, and sets *count to their number. If
+ * that is more than `room` (BENCH_NO_ROOM), nothing is copied. An unsigned integer above 2^63 - 1 keeps its 64 bits, and so becomes
+ * negative: cast it to uint64_t. Byte strings and records are refused, "no E33 no such cast". */
+int bench_items(struct bench_handle *bench, const void *name, size_t name_length, int64_t *out, size_t room, size_t *count);
+
+/* Copies the items of an array to `out`, in C order, each in the bytes of its own type, and sets *length to the number of bytes, as
+ * bench_reply does. It is what an NPY file has after its header. */
+int bench_get_array(struct bench_handle *bench, const void *name, size_t name_length, void *out, size_t room, size_t *length);
+
+/* Binds a name to a new array of this type, such as "<i4" (not a record), and this shape. `items` are its items in C order, as
+ * bench_get_array copies them; BENCH_INVALID if `length` is not the number of their bytes. `undo` takes the binding back. */
+int bench_put_array(struct bench_handle *bench, const void *name, size_t name_length, const void *type, size_t type_length,
+                    const size_t *shape, size_t axes, const void *items, size_t length);
 
 /* Frees the bench with its arrays, history and files, and sets the handle to zeros. If it was closed: BENCH_CLOSED. */
 int bench_close(struct bench_handle *bench);
