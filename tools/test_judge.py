@@ -281,6 +281,16 @@ class Runner(InFolder):
         text = judged(self.folder / "my_adapter.py", "--only", "indexes/", "--seconds", 0, status=0)
         self.assertRegex(text, r"(?m)^feature +my$")
 
+    def test_adapters_that_do_not_start(self):
+        """What is wrong is said in one line, with the Python that runs the adapter."""
+        path = self.folder / "my_adapter.py"
+        for text, said in (("import no_such_module\n", "ModuleNotFoundError: No module named 'no_such_module'"), ("x = 1\n", "has no class with the methods make and items")):
+            path.write_text(text)
+            err = io.StringIO()
+            with contextlib.redirect_stderr(err):
+                self.assertEqual(main(["judge", str(path), "--only", "integers"]), 3)
+            self.assertRegex(err.getvalue(), rf"^bench-tool: my does not start: .*{said} \({re.escape(sys.executable)}\)\n$")
+
     def test_wrong_words(self):
         for words, said in ((["nowhere.py"], "there is no adapter nowhere.py"), ([], "name an adapter"), ([self.adapter(), "--only", "zzz"], "no case is about zzz"),
                             ([self.adapter(), "--needs", "zzz"], "--needs does not know zzz")):

@@ -115,7 +115,8 @@ class Worker:
         limit(self._process.pid)
         line = self._line(START)
         if isinstance(line, Died):
-            raise BenchError(f"{self.program.name} does not start ({line.how}): {line.said[-600:]}")
+            last = line.said.splitlines()[-1:] or [line.how]
+            raise BenchError(f"{self.program.name} does not start: {last[0]} ({self.program.words[0]})")
         try:
             told = json.loads(line)
             has, can = told.get("has", sorted(needs.ALL)), told.get("can", METHODS)
