@@ -93,13 +93,18 @@ class Worker:
         self.can: tuple[str, ...] = ()
         self.unknown: list[str] = []
         self.most_axes = needs.MOST_AXES
+        self.first_start()
+
+    def first_start(self) -> None:
+        """Starts the program, without the checks of its memory if it does not start with them."""
         try:
             self.start()
         except BenchError:
-            if not (CHECKS and is_checked):
+            if not (CHECKS and self.is_checked):
+                self.close()
                 raise
-            self.is_checked = False  # perhaps it does not start with the checks
-            self.start()
+            self.is_checked = False
+            self.first_start()
 
     def start(self) -> None:
         """Starts the program, which says first what it has and can."""
