@@ -27,6 +27,22 @@ ISSUE = 24  # the first faults of the list are those of other libraries
 # The keys of a case, and what their values are.
 ALWAYS = {"id": str, "feature": str, "needs": list, "lines": list, "steps": list, "want": dict, "numpy": object}
 SOMETIMES = {"refuse": dict, "rows": list, "any_type": bool, "files": dict, "shares": list}
+# Bugs of docs/FINDINGS.md: the feature of a case that finds each, and its last line, or a line of it.
+REPORTED = {
+    "numba, a temporary with room for one item": ("overlap: 100,000 items", "set a[:] = a[5:6]"), "numba, lengths in place": ("broadcasting: in place", "upd a[1:] add b"),
+    "numba, in place over itself": ("overlap: slices, in place", "upd a[1:5:1] add a[0:4:1]"), "numba, torch, numexpr, the least integer and -1": ("quotients, remainders", "x = mod a b"),
+    "Cython, a step past the end": ("slices", "x = a[3:2:7]"), "Cython, a start before the first item": ("slices beyond the ends, negative steps", "x = a[-5::-2]"),
+    "PyPy, lengths": ("broadcasting: assignments", "set a[::-1] = a[::-3]"), "PyPy, slices of slices": ("slices of slices", "x = v[1:]"),
+    "xtensor, argmax": ("argmin, argmax", "x = argmax a 0"), "xtensor, empty slices": ("slices", "x = a[2:1]"), "xtensor, lengths": ("broadcasting: assignments", "set a[6:] = a[:4]"),
+    "xtensor, one item": ("overlap: a source that is repeated", "set a[:] = a[0:1]"), "xtensor, cut files": ("NPY: files that are cut", 'x = load "a.npy"'),
+    "xtensor, forged shapes": ("NPY: forged shapes", 'x = load "a.npy"'), "xtensor, long headers": ("NPY: forms of headers", 'x = load "a.npy"'),
+    "torch, several axes": ("overlap: several axes", "set m[:,1:] = m[:,:-1]"), "torch, index arrays": ("overlap: index arrays", "set a[i] = a[0:2:1]"),
+    "torch, masks of two axes": ("masks beside slices", "x = a[k,:2]"), "torch, wrapped numbers": ("comparisons with a number out of range", "x = eq a 256"),
+    "torch, nothing selected": ("index arrays out of range, nothing selected", "x = a[1:1,i]"), "torch, dask, an integer apart": ("index arrays beside integers", "x = a[0,:,i]"),
+    "dask, a start before the first item": ("slices beyond the ends, negative steps", "x = a[-4::-1]"), "dask, the least of no items": ("reductions of no items", "x = min a 1"),
+    "dask, masks": ("masks of several axes", "x = a[k]"), "dask, empty index arrays": ("empty index arrays", "x = a[i]"), "numexpr, over itself": ("overlap: 100,000 items", "upd a[::-1] add a[:]"),
+    "NumPy, a length of -2": ("reshape to a wrong shape", "x = reshape a (-2,3)"), "NumPy, slices": ("overlap: slices", "set a[0:5:2] = a[0:3:1]"),
+}
 needs_library = unittest.skipUnless(library.loaded(), "there is no libbench here")
 needs_numpy = unittest.skipUnless(numpy_or_none(), "NumPy is not installed")
 
@@ -86,6 +102,11 @@ class Cases(unittest.TestCase):
         if refuse and "row" not in json.dumps(refuse):
             self.assertIn(refuse["code"], language.codes())
             self.assertLess(refuse["step"], len(case["steps"]))
+
+    def test_bugs_of_other_libraries(self):
+        """Each has a case."""
+        asked = {(case.feature, line) for case in ALL for question in case.questions() for line in question.lines}
+        self.assertEqual({name: case for name, case in REPORTED.items() if case not in asked}, {})
 
     def test_pairs_of_slices(self):
         """All 2,912 pairs, as set, upd, by an index array and by a mask."""
@@ -280,6 +301,16 @@ class Runner(InFolder):
         (self.folder / "my_adapter.py").write_text(code)
         text = judged(self.folder / "my_adapter.py", "--only", "indexes/", "--seconds", 0, status=0)
         self.assertRegex(text, r"(?m)^feature +my$")
+
+    def test_adapters_that_do_not_start(self):
+        """What is wrong is said in one line, with the Python that runs the adapter."""
+        path = self.folder / "my_adapter.py"
+        for text, said in (("import no_such_module\n", "ModuleNotFoundError: No module named 'no_such_module'"), ("x = 1\n", "has no class with the methods make and items")):
+            path.write_text(text)
+            err = io.StringIO()
+            with contextlib.redirect_stderr(err):
+                self.assertEqual(main(["judge", str(path), "--only", "integers"]), 3)
+            self.assertRegex(err.getvalue(), rf"^bench-tool: my does not start: .*{said} \({re.escape(sys.executable)}\)\n$")
 
     def test_wrong_words(self):
         for words, said in ((["nowhere.py"], "there is no adapter nowhere.py"), ([], "name an adapter"), ([self.adapter(), "--only", "zzz"], "no case is about zzz"),

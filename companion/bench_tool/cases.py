@@ -140,7 +140,7 @@ def folder() -> Path:
 
 def read(needs: Optional[Collection[str]] = None, only: str = "", place: Optional[Path] = None) -> list[Case]:
     """All cases; with `needs`, only those that need nothing else; with `only`, those whose id or feature has this text."""
-    found = (from_json(json.loads(line)) for path in sorted((place or folder()).glob("*.jsonl")) for line in path.open(encoding="utf-8"))
+    found = (from_json(json.loads(line)) for path in sorted((place or folder()).glob("*.jsonl")) for line in path.read_text(encoding="utf-8").splitlines())
     return [case for case in found if (needs is None or fits(case, needs)) and (only in case.id or only in case.feature)]
 
 

@@ -45,7 +45,7 @@ class Results:
 
     def add(self, case: Case, verdicts: Sequence[Verdict]) -> None:
         found = worst(verdicts)
-        self.asked += len(verdicts)
+        self.asked += sum(verdict.verdict != UNSUPPORTED for verdict in verdicts)
         self.of_case[case.id] = found.verdict
         self.table.setdefault(case.feature, collections.Counter())[found.verdict] += 1
         for verdict in verdicts:

@@ -305,7 +305,7 @@ class Scripts:
         name = self.array()
         count = math.prod(self.shape(name))
         shape: list[int] = []
-        while count > 1 and self.chance(0.85):
+        while count > 1 and len(shape) < 4 and self.chance(0.85):
             factor = self.rng.choice([each for each in range(1, count + 1) if count % each == 0])
             shape.append(factor)
             count //= factor

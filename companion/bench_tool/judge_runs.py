@@ -93,13 +93,18 @@ class Worker:
         self.can: tuple[str, ...] = ()
         self.unknown: list[str] = []
         self.most_axes = needs.MOST_AXES
+        self.first_start()
+
+    def first_start(self) -> None:
+        """Starts the program, without the checks of its memory if it does not start with them."""
         try:
             self.start()
         except BenchError:
-            if not (CHECKS and is_checked):
+            if not (CHECKS and self.is_checked):
+                self.close()
                 raise
-            self.is_checked = False  # perhaps it does not start with the checks
-            self.start()
+            self.is_checked = False
+            self.first_start()
 
     def start(self) -> None:
         """Starts the program, which says first what it has and can."""
@@ -115,7 +120,8 @@ class Worker:
         limit(self._process.pid)
         line = self._line(START)
         if isinstance(line, Died):
-            raise BenchError(f"{self.program.name} does not start ({line.how}): {line.said[-600:]}")
+            last = line.said.splitlines()[-1:] or [line.how]
+            raise BenchError(f"{self.program.name} does not start: {last[0]} ({self.program.words[0]})")
         try:
             told = json.loads(line)
             has, can = told.get("has", sorted(needs.ALL)), told.get("can", METHODS)

@@ -150,16 +150,15 @@ def broadcast(a: Array, shape: Sequence[int]) -> Array:
     return Array(a.type, a.cells, tuple(shape), tuple(strides), a.start, planted("a broadcast can be written") and a.is_writable)
 
 
-def common(shapes: Iterable[Sequence[int]]) -> tuple[int, ...]:
+def common(shapes: Sequence[Sequence[int]]) -> tuple[int, ...]:
     """The shape to which some shapes are broadcast."""
-    found: list[int] = []
-    for lengths in zip(*(reversed((1,) * 8 + tuple(shape)) for shape in shapes)):
-        wide = [length for length in lengths if length != 1]
-        if len(set(wide)) > 1:
+    rank, found = max(map(len, shapes), default=0), []
+    for lengths in zip(*((1,) * (rank - len(shape)) + tuple(shape) for shape in shapes)):
+        wide = {length for length in lengths if length != 1}
+        if len(wide) > 1:
             raise ValueError("shapes do not broadcast")
-        found.insert(0, wide[0] if wide else 1)
-    rank = max(map(len, shapes), default=0) if isinstance(shapes, list) else 0
-    return tuple(found[len(found) - rank:]) if rank else ()
+        found.append(wide.pop() if wide else 1)
+    return tuple(found)
 
 
 def reshape(a: Array, shape: Sequence[int]) -> Array:
