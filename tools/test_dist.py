@@ -163,7 +163,8 @@ class Aarch64(InFolder):
         program = self.folder / "started"
         program.write_bytes(machines.program_for_aarch64(self.compiled("calls", (TOP / "tools/trials/system_calls.c").read_text()), self.folder))
         program.chmod(0o755)
-        done = subprocess.run(["qemu-aarch64", "-L", self.GLIBC, program, "one", "", "four", "and five"], capture_output=True, text=True)
+        words = [shutil.which("qemu-aarch64"), "-L", self.GLIBC, program, "one", "", "four", "and five"]
+        done = subprocess.run(words, capture_output=True, text=True, env={"ABC": "de"})
         self.assertEqual((done.returncode, done.stdout, done.stderr), (0, "one..four.and +", ""))
 
     def test_the_same_bytes(self):

@@ -50,6 +50,7 @@ void rattle_set_errno(int error)
     *__errno_location() = error;
 }
 
+/* The words of the program, and behind a NULL those of its environment. */
 static size_t count;
 static char **words;
 
@@ -58,17 +59,46 @@ size_t rattle_arg_count(void)
     return count;
 }
 
-/* Copies a word, without the zero byte at its end: its length, -1 if there is none, -2 if there is no room for it. */
-ssize_t rattle_arg(size_t number, char *out, size_t room)
+/* Copies a text, without the zero byte at its end: its length, -1 if there is none, -2 if there is no room for it. */
+static ssize_t copied(const char *text, char *out, size_t room)
 {
-    const char *word = number < count ? words[number] : 0;
-    if (!word) return -1;
+    if (!text) return -1;
     size_t length = 0;
-    for (; word[length]; length++) {
+    for (; text[length]; length++) {
         if (length == room) return -2;
-        out[length] = word[length];
+        out[length] = text[length];
     }
     return (ssize_t)length;
+}
+
+ssize_t rattle_arg(size_t number, char *out, size_t room)
+{
+    return copied(number < count ? words[number] : 0, out, room);
+}
+
+ssize_t rattle_env_at(size_t number, char *out, size_t room)
+{
+    char **entry = words + count + 1;
+    while (*entry && number--) entry++;
+    return copied(*entry, out, room);
+}
+
+ssize_t rattle_env(const char *name, char *out, size_t room)
+{
+    for (char **entry = words + count + 1; *entry; entry++) {
+        size_t length = 0;
+        while (name[length] && name[length] == (*entry)[length]) length++;
+        if (!name[length] && (*entry)[length] == '=') return copied(*entry + length + 1, out, room);
+    }
+    return -1;
+}
+
+/* What the C compiler's library has beside page/wide.c. */
+unsigned __int128 __udivti3(unsigned __int128, unsigned __int128);
+
+unsigned __int128 __umodti3(unsigned __int128 left, unsigned __int128 right)
+{
+    return left - __udivti3(left, right) * right;
 }
 
 /* The system starts a program with the count of its words and then their addresses on the stack. */

@@ -9,6 +9,8 @@ struct tried {
 
 size_t rattle_arg_count(void);
 ssize_t rattle_arg(size_t, char *, size_t);
+ssize_t rattle_env_at(size_t, char *, size_t);
+ssize_t rattle_env(const char *, char *, size_t);
 struct tried rattle_alloc(size_t, size_t);
 struct tried rattle_realloc(void *, size_t, size_t, size_t);
 void rattle_dealloc(void *);
@@ -33,6 +35,22 @@ static int memory(void)
     return rattle_errno() == 34 ? 0 : 6;
 }
 
+/* The environment is ABC=de and nothing else. */
+static int environment(void)
+{
+    char held[6];
+    if (rattle_env_at(0, held, 6) != 6 || held[5] != 'e' || rattle_env_at(0, held, 5) != -2) return 8;
+    if (rattle_env_at(1, held, 6) != -1 || rattle_env_at(9, held, 6) != -1) return 9;
+    if (rattle_env("ABC", held, 6) != 2 || held[0] != 'd' || rattle_env("ABC", held, 1) != -2) return 10;
+    return rattle_env("AB", held, 6) == -1 && rattle_env("ABCD", held, 6) == -1 ? 0 : 11;
+}
+
+static int wide(void)
+{
+    volatile unsigned __int128 large = ((unsigned __int128)1 << 100) + 12345, small = 1000003;
+    return large / small * small + large % small == large && large % small < small && (unsigned)(large % 10) == 1 ? 0 : 12;
+}
+
 int main(int count, char **words)
 {
     char held[4];
@@ -42,5 +60,7 @@ int main(int count, char **words)
         write(1, held, length == -2 ? 4 : (size_t)length);
         write(1, length == -2 ? "+" : ".", 1);
     }
-    return memory();
+    int wrong = memory();
+    wrong = wrong ? wrong : environment();
+    return wrong ? wrong : wide();
 }
