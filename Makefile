@@ -8,7 +8,7 @@
 # make static         out/bench-x86_64-linux-static, of what `make` built, for systems without glibc 2.34; needs gcc and its libc.a
 # make pictures       draws the pictures of the docs from scripts in examples/; needs Node
 # make page           dist/bench.html, the bench in one page, with dist/bench.wasm and dist/bench.mjs; proves bench_c
-# make machines       out/machines/, the program and the library for other machines: x86-64 with AVX2, and aarch64; twenty minutes of one core
+# make machines       out/machines/, the program and the library for other machines: x86-64 with AVX2, and aarch64; minutes of one core for each of four files
 # make words          writes the words of docs/LANGUAGE.md into help, manual page and syntax files
 # make dist           writes dist/ anew, from what `make`, `make page` and `make machines` made
 # make check          the gate: every proof from scratch, dist/, and `make test`
