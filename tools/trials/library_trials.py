@@ -10,7 +10,7 @@ SHARED, ARCHIVE = PLACE / "libbench.so.1", PLACE / "libbench.a"
 needs_library = unittest.skipUnless(SHARED.is_file() and ARCHIVE.is_file(), "there is no libbench here")
 
 
-def has(call):
+def has(call: str) -> bool:
     """Whether the library has a call; one that cannot be loaded here has none."""
     try:
         return hasattr(ctypes.CDLL(str(SHARED)), call)
