@@ -22,6 +22,7 @@
 #define BENCH_H
 
 #include <stddef.h>
+#include <stdint.h>
 
 #ifdef __cplusplus
 extern "C" {
@@ -29,7 +30,7 @@ extern "C" {
 
 enum bench_status {
     BENCH_OK = 0,        /* Success. From bench_answer: the command was accepted. */
-    BENCH_REFUSED = 1,   /* bench_answer: the line was refused. The reply says why, and nothing changed. */
+    BENCH_REFUSED = 1,   /* bench_answer and the calls for arrays: refused. The reply says why, and nothing changed. */
     BENCH_NOTHING = 2,   /* bench_answer: the line is blank or a comment. The reply is empty. */
     BENCH_NO_MEMORY = 3, /* bench_open, bench_put: out of memory. Nothing changed. */
     BENCH_TOO_LONG = 4,  /* bench_put: the file would be longer than 2^29 bytes. Nothing changed. */
@@ -49,7 +50,8 @@ struct bench_handle {
 int bench_open(size_t depth, struct bench_handle *bench);
 
 /* Answers one line of a script, given without its newline: BENCH_OK, BENCH_REFUSED or BENCH_NOTHING. A line longer than
- * 65,536 bytes is refused. So is a command for which there is no memory: its reply is "no E40 out of memory". */
+ * 65,536 bytes is refused. So is a line with a carriage return at its end, "no E02 byte not allowed"; the program, which reads
+ * scripts, takes it as a part of the newline. So is a command for which there is no memory: "no E40 out of memory". */
 int bench_answer(struct bench_handle *bench, const void *line, size_t line_length);
 
 /* Copies the reply to the last line, without a newline at its end, to `out`, which has room for `room` bytes, and sets
@@ -71,6 +73,40 @@ int bench_get(struct bench_handle *bench, const void *name, size_t name_length, 
 /* Copies the name of the first file after `name`, in the order of their bytes, to `out`, and sets *length as bench_get does.
  * To list all files, begin with the empty name and pass each name to the next call, until BENCH_NO_FILE. */
 int bench_file(struct bench_handle *bench, const void *name, size_t name_length, void *out, size_t room, size_t *length);
+
+/* The calls for arrays take the name of an array in place of a line. If they refuse it, the status is BENCH_REFUSED and the reply
+ * is that of a refused line, such as "no E06 unknown name". Otherwise, only bench_put_array changes the reply. */
+
+enum { BENCH_MAX_AXES = 64 };
+
+/* What bench_info knows about an array. */
+struct bench_array {
+    size_t axes;                  /* The number of axes. */
+    size_t shape[BENCH_MAX_AXES]; /* The length of each axis. */
+    size_t items;                 /* The number of items, the product of the lengths. */
+    size_t item_size;             /* The number of bytes of an item. */
+    int is_writable;              /* 0 if the array is read-only, as a broadcast one is. */
+};
+
+/* Sets *array to what is known about an array. */
+int bench_info(struct bench_handle *bench, const void *name, size_t name_length, struct bench_array *array);
+
+/* Copies the type of an array, such as "<i4" or the format of a record, to `out`, and sets *length as bench_get does. */
+int bench_type(struct bench_handle *bench, const void *name, size_t name_length, void *out, size_t room, size_t *length);
+
+/* Copies the items of an array of bools or integers to `out`, in C order, each as an int64_t, and sets *count to their number,
+ * which may be more than `room` (BENCH_NO_ROOM). An unsigned integer above 2^63 - 1 keeps its 64 bits, so it becomes negative:
+ * cast it to uint64_t. Byte strings and records are refused, "no E33 no such cast". */
+int bench_items(struct bench_handle *bench, const void *name, size_t name_length, int64_t *out, size_t room, size_t *count);
+
+/* Copies the items of an array to `out`, in C order, each in the bytes of its own type, and sets *length to the number of bytes, as
+ * bench_get does. The bytes are those that `save` would write after the header of an NPY file, if the array is in C order. */
+int bench_get_array(struct bench_handle *bench, const void *name, size_t name_length, void *out, size_t room, size_t *length);
+
+/* Binds a name to a new array of this type and shape. `items` are the bytes of its items in C order, and `length` is their number:
+ * items times bytes of an item. The reply is that of a command, such as "ok a <i4 (2, 3) new", and `undo` takes it back. */
+int bench_put_array(struct bench_handle *bench, const void *name, size_t name_length, const void *type, size_t type_length,
+                    const size_t *shape, size_t axes, const void *items, size_t length);
 
 /* Frees the bench with its arrays, history and files, and sets the handle to zeros. If it was closed: BENCH_CLOSED. */
 int bench_close(struct bench_handle *bench);

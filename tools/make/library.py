@@ -14,7 +14,7 @@ import sources
 
 # Of the C library's headers bench.c needs only these lines.
 STDDEF = "typedef __SIZE_TYPE__ size_t;\n#define NULL ((void *)0)\n"
-STDINT = "typedef __UINT8_TYPE__ uint8_t;\n#define PTRDIFF_MAX __PTRDIFF_MAX__\n"
+STDINT = "typedef __UINT8_TYPE__ uint8_t;\ntypedef __INT64_TYPE__ int64_t;\n#define PTRDIFF_MAX __PTRDIFF_MAX__\n"
 COMPILED = ["--target=x86_64-unknown-linux-gnu", "-std=c11", "-O2", "-fPIC", "-Wall", "-Wextra", "-Werror", "-nostdinc", "-isystem", "."]
 SHARED = ["-shared", "--soname=libbench.so.1", "--gc-sections", "--strip-all", "--build-id=none", "-z", "defs", "-z", "relro", "-z", "now"]
 
