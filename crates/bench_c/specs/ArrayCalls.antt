@@ -1,12 +1,11 @@
 -- What the calls for arrays do to a bench.
-use Rattle.std.specs.Prelude.{◌≡◌, ◌⊎◌, ℕ, Bool, true, List, [], ◌∷◌, Option, Some, None, Result, Ok, Err}
-use Rattle.bench_c.specs.Words.{Choice, Outcome, creation_outcome, Contents, State, Refusal, OutOfMemory, refusal_text, Reply, refusal, Tells, DoesAlone, ◌>>=◌}
-use Rattle.bench_engine.specs.Steps as steps
+use Rattle.std.specs.Prelude.{◌≡◌, ◌⊎◌, ℕ, List, Option, Some, Result, Ok, Err}
+use Rattle.bench_c.specs.Words.{Choice, Outcome, IsAllowed, accepted_with, creation_outcome, Contents, State, Refusal, OutOfMemory, refusal_text, ◌>>=◌}
 use Rattle.bench_c.specs.declared.open_bench.OpenBench.{OpenBench}
 use Rattle.bench_c.specs.declared.status.Status.{Status}
 use Rattle.bench_c.specs.declared.status.Status.TheVariants.{Done, Refused}
 use Rattle.bench_c.specs.declared.array_calls.Info.{Info}
-use Rattle.bench_c.specs.Benches.{CopiesOut, line_status, world_of}
+use Rattle.bench_c.specs.Benches.{CopiesOut}
 use Rattle.bench_c.specs.Calls.{StandsFor}
 use Rattle.bench_c.specs.Arrays.{named}
 
@@ -32,12 +31,13 @@ GivesInfo asked info info' old new status =
     ((asked old.bench.state ≡ Ok info') × (new ≡ old) × (status ≡ Done))
     ⊎ ((refused : Refusal) × (asked old.bench.state ≡ Err refused) × Refuses old refused new status × (info' ≡ info))
 
--- The machine makes an array with these contents, as `X = array ..` does, if the bytes are a name. If memory runs out,
--- it may refuse the call, with nothing changed.
+-- X = array .., for a name and contents that are given
+abbrev pub put_outcome : Choice → State → List ℕ → Result Contents Refusal → Outcome
+put_outcome choice s name contents = named name >>= (λ name. creation_outcome choice s name contents)
+
+-- The machine binds the name to an array with these contents, and the reply is the machine's; or the call is refused, which
+-- it may also be as out of memory, and no array changes. No file changes.
 pub record PutsArray (name : List ℕ) (contents : Result Contents Refusal) (old new : OpenBench) (status : Status) : Type 0 where
-  pub accepted : Bool
-  pub says : status ≡ line_status (Some accepted)
-  pub reply : Reply
-  pub tells : Tells (reply ∷ []) (Some accepted) new.reply
-  pub step : DoesAlone (world_of old) (λ choice. named name >>= (λ name. creation_outcome choice old.bench.state name contents)) (world_of new) reply
-      ⊎ steps.Refuses (world_of old) (world_of new) OutOfMemory reply
+  pub files : new.files ≡ old.files
+  pub puts : ((choice : Choice) × IsAllowed old.bench.state choice × (put_outcome choice old.bench.state name contents ≡ accepted_with new.bench.state new.reply) × (status ≡ Done))
+    ⊎ ((refused : Refusal) × ((refused ≡ OutOfMemory) ⊎ ((choice : Choice) → put_outcome choice old.bench.state name contents ≡ Err refused)) × (new.bench.state ≡ old.bench.state) × (new.reply ≡ refusal_text refused) × (status ≡ Refused))

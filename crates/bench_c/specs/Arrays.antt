@@ -1,6 +1,6 @@
 -- What is asked about a name's array, and what a given array contains.
 use Rattle.std.specs.Prelude.{ℕ, ◌*◌, true, List, ◌++◌, length, codes, nat_eq, nat_le, Result, Ok, Err}
-use Rattle.bench_c.specs.Words.{array_of, cast_items, descr_text, Contents, new_contents, array_type, descr_of, Array, State, Descr, ScalarDescr, Int, Eight, Little, item_size, items_in, encode_item, LeafValue, Refusal, Syntax, TooLarge, UnknownName, NumberOfValues, check, ◌>>=◌, count, max_bytes, flat_map, Line, line_of, asks, Delete}
+use Rattle.bench_c.specs.Words.{array_of, cast_items, descr_text, Contents, new_contents, array_type, descr_of, Array, State, Descr, ScalarDescr, Int, Eight, Little, item_size, items_in, encode_item, LeafValue, Refusal, ByteNotAllowed, Syntax, TooLarge, UnknownName, NumberOfValues, check, ◌>>=◌, count, max_bytes, flat_map, Line, line_of, asks, bad_byte, Delete}
 use Rattle.bench_c.specs.declared.array_calls.Info.{Info}
 
 -- the array of a name, which has at most 32 bytes
@@ -53,9 +53,10 @@ items_called name s = do
 -- the name that a line deletes
 abbrev pub deleted : Line → Result (List ℕ) Refusal
 deleted (asks (Delete name)) = Ok name
+deleted bad_byte = Err ByteNotAllowed
 deleted _ = Err Syntax
 
--- The bytes are a name if the line `del NAME` may say them. A name has at most 32 bytes.
+-- A name is what the line `del NAME` deletes. It has at most 32 bytes.
 unfoldable pub named : List ℕ → Result (List ℕ) Refusal
 named name = do
   _ ← check (nat_le (length name) 32) Syntax

@@ -1,6 +1,6 @@
 //! Arrays that are given by their type, their shape and the bytes of their items.
 ghost use Rattle.std.specs.Prelude.{◌≡◌, ◌++◌, ◌*◌, ◌≤◌, true, codes, IfOk, OnOk};
-ghost use Rattle.bench_c.specs.Clauses.{BindsGiven, Gives, array_type, bound_text, count, given_contents, held, item_size, max_bytes, named};
+ghost use Rattle.bench_c.specs.Clauses.{Answers, BindsGiven, Gives, array_type, asks, bound_text, count, deleted, given_contents, held, item_size, max_bytes, named};
 ghost use Rattle.bench_engine.specs.declared.replies.Origin.TheVariants as origin;
 
 use crate::asked::descr_text;
@@ -23,7 +23,17 @@ pub struct GivenArray<'a> {
     pub items: &'a [u8],
 }
 
-/// The name that the command `del` would take.
+/// The name that a command deletes.
+fn deleted(command: Command) -> Result<Name, Refusal>
+    ensures { Answers (λ name. name) result (deleted (asks command)) }
+{
+    match command {
+        Command::Delete { name } => Ok(name),
+        _ => Err(Refusal::Syntax),
+    }
+}
+
+/// The name in the line `del NAME`.
 fn named(alloc: Global, name: &[u8]) -> Result<Name, Refusal>
     ensures { Gives (λ name. name) result (named name.now) }
 {
@@ -32,10 +42,9 @@ fn named(alloc: Global, name: &[u8]) -> Result<Name, Refusal>
     }
     let mut line = Vec::from_slice(alloc, b"del ")?;
     line.extend_from_slice(name)?;
-    match parse(alloc, line.as_slice()) {
-        Ok(Some(Command::Delete { name })) => Ok(name),
-        Err(Refusal::OutOfMemory) => Err(Refusal::OutOfMemory),
-        _ => Err(Refusal::Syntax),
+    match parse(alloc, line.as_slice())? {
+        Some(command) => deleted(command),
+        None => Err(Refusal::Syntax),
     }
 }
 
@@ -72,12 +81,13 @@ fn set_bound_text(out: &mut ReplyText, name: &Name, owned: &Owned) -> Result<(),
 {
     let alloc = out.allocator();
     let descr = descr_text(alloc, &owned.descr)?;
-    let shape = &owned.layout.shape;
-    let rest = format!(in alloc; " {shape} new")?;
+    let lengths = &owned.layout.shape;
+    let shape = format!(in alloc; " {lengths}")?;
     out.set(b"ok ", name.as_slice());
     out.push(b" ")?;
     out.push(descr.as_slice())?;
-    out.push(rest.as_bytes())
+    out.push(shape.as_bytes())?;
+    out.push(b" new")
 }
 
 /// Binds a name to the array that is given, and makes the reply.

@@ -1,7 +1,7 @@
 -- What the functions between a call and the bench ensure.
 use Rattle.std.specs.Prelude.{◌≡◌, ◌⊎◌, ℕ, List, Result, Ok, Err}
-use Rattle.bench_c.specs.Words.{Choice, IsAllowed, accepted_with, creation_outcome, Contents, Owned, item_size, offsets, places_of, own_buffer, Array, ArrayRef, State, Shows, Refusal, OutOfMemory, ◌>>=◌}
-use Rattle.bench_c.specs.Arrays.{named}
+use Rattle.bench_c.specs.Words.{Choice, IsAllowed, accepted_with, Contents, Owned, item_size, offsets, places_of, own_buffer, Array, ArrayRef, State, Shows, Refusal, OutOfMemory}
+use Rattle.bench_c.specs.ArrayCalls.{put_outcome}
 
 -- A lookup returns the array, or the refusal.
 abbrev pub Looks : State → Result Array Refusal → Result ArrayRef Refusal → Type 0
@@ -15,6 +15,6 @@ held o = record { shape = o.layout.shape; places = places_of (item_size o.descr)
 -- The name is bound to an array with these contents, and the text is the reply; or nothing is bound.
 abbrev pub BindsGiven : State → List ℕ → Result Contents Refusal → State → List ℕ → Result (Unit {0}) Refusal → Type 0
 BindsGiven old name contents new text (Ok _) =
-    (choice : Choice) × IsAllowed old choice × ((named name >>= (λ name. creation_outcome choice old name contents)) ≡ accepted_with new text)
+    (choice : Choice) × IsAllowed old choice × (put_outcome choice old name contents ≡ accepted_with new text)
 BindsGiven old name contents new text (Err refused) =
-    (new ≡ old) × ((refused ≡ OutOfMemory) ⊎ ((choice : Choice) → (named name >>= (λ name. creation_outcome choice old name contents)) ≡ Err refused))
+    (new ≡ old) × ((refused ≡ OutOfMemory) ⊎ ((choice : Choice) → put_outcome choice old name contents ≡ Err refused))
