@@ -1,10 +1,10 @@
 -- What a bench with its files in memory answers, and what is done with its files.
-use Rattle.std.specs.Prelude.{◌≡◌, ◌<◌, ◌≤◌, ◌^◌, ◌++◌, ℕ, Bool, List, [], length, drop, Option, Some, None, true, false}
+use Rattle.std.specs.Prelude.{◌≡◌, ◌≢◌, ◌<◌, ◌≤◌, ◌^◌, ◌++◌, ℕ, Bool, List, [], length, drop, Option, Some, None, true, false}
 use Rattle.std.specs.FinMap.{insert}
 use Rattle.name_store.specs.States.{start}
 use Rattle.npy_files.specs.Stores.{StoreState, empty_shelf}
 use Rattle.npy_files.specs.contracts.mem_store.MemStoreNpyStore.TheImpl as mem_store
-use Rattle.bench_engine.specs.Headline.{AnswersLine}
+use Rattle.bench_engine.specs.Headline.{AnswersMeaning, meaning_of}
 use Rattle.bench_engine.specs.Replies.{Reply, Tells}
 use Rattle.bench_engine.specs.Steps.{World, world}
 use Rattle.bench_c.specs.declared.open_bench.OpenBench.{OpenBench}
@@ -28,14 +28,14 @@ line_status None = Silent
 line_status (Some true) = Done
 line_status (Some false) = Refused
 
--- The machine may answer the line like this, and the bench keeps the reply. If memory runs out, the machine may refuse
--- the line, with nothing changed.
+-- The machine may answer the line like this, and the bench keeps the reply. The answer to a line that may lack memory
+-- may be that there is none, with nothing changed.
 pub record AnswersAsMachine (old : OpenBench) (line : List ℕ) (new : OpenBench) (status : Status) : Type 0 where
   pub accepted : Option Bool
   pub says : status ≡ line_status accepted
   pub replies : List Reply
   pub reply : Tells replies accepted new.reply
-  pub step : AnswersLine (world_of old) line (world_of new) replies
+  pub step : AnswersMeaning (world_of old) (meaning_of line) (world_of new) replies
 
 -- If the bytes fit, they are copied to the front of the caller's bytes, and otherwise nothing is copied. `len` is set
 -- to their number in both cases.
@@ -55,7 +55,7 @@ with_file shelf name bytes = record shelf { files = insert shelf.files name byte
 
 -- the store after a call to put a file there, for each status
 abbrev pub PutsInStore : StoreState → List ℕ → List ℕ → StoreState → Status → Type 0
-PutsInStore old name bytes new Done = (new ≡ with_file old name bytes) × (length bytes ≤ old.limit)
+PutsInStore old name bytes new Done = (name ≢ []) × (new ≡ with_file old name bytes) × (length bytes ≤ old.limit)
 PutsInStore old name bytes new TooLong = (new ≡ old) × (old.limit < length bytes)
 PutsInStore old name bytes new NoMemory = new ≡ old
 PutsInStore old name bytes new Invalid = (new ≡ old) × (name ≡ [])

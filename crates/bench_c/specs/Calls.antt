@@ -1,5 +1,5 @@
 -- What the calls from C do to a handle, and which numbers they return.
-use Rattle.std.specs.Prelude.{◌≡◌, ◌⊎◌, ◌<◌, ℕ, List, Option, Some, None}
+use Rattle.std.specs.Prelude.{◌≡◌, ◌⊎◌, ◌<◌, ◌≤◌, ℕ, List, Option, Some, None}
 use Rattle.std.specs.FinMap.{get}
 use Rattle.npy_files.specs.Stores.{IsNextName}
 use Rattle.bench_c.specs.declared.open_bench.OpenBench.{OpenBench}
@@ -12,10 +12,10 @@ use Rattle.bench_c.specs.Benches.{world_of, IsJustOpened, AnswersAsMachine, Copi
 abbrev pub StandsFor : (Status → Type 0) → ℕ → Type 0
 StandsFor IsTrueOf code = (status : Status) × (code ≡ code_of status) × IsTrueOf status
 
--- The bench is open; or there is none, because the depth is invalid or memory ran out.
+-- The bench is open; or there is none, because the depth is invalid, or because memory ran out for one that is valid.
 abbrev pub Opens : ℕ → Option OpenBench → ℕ → Type 0
 Opens depth (Some bench) code = IsJustOpened depth bench × (code ≡ code_of Done)
-Opens depth None code = ((64 < depth) × (code ≡ code_of Invalid)) ⊎ (code ≡ code_of NoMemory)
+Opens depth None code = ((64 < depth) × (code ≡ code_of Invalid)) ⊎ ((depth ≤ 64) × (code ≡ code_of NoMemory))
 
 -- The bench behind an open handle answers a line, and the handle stays open.
 abbrev pub AnswersBehind : Option OpenBench → List ℕ → Option OpenBench → ℕ → Type 0

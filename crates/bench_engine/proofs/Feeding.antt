@@ -1,6 +1,6 @@
 -- A session that is fed more bytes.
 use Rattle.std.proofs.Common.{◌≡◌, ◌≢◌, ◌<◌, ◌+◌, ℕ, Bool, true, false, List, [], ◌∷◌, ◌++◌, length, map, Option, refl, sym, ap, ◌∙◌, subst, arith, append_assoc, add_assoc, not, cond, ◌&&◌, nat_eq, count_by, Result, Ok, Err, OnOk, OnErr}
-use Rattle.bench_engine.proofs.Words.{Appends, eqb-suc-zero, false≢true, All-nil, sum_by-append, append-nil, map-append, flat_map-append, State, StoreState, appends_nothing, appends_then, Sends, Session, Reply, World, world, Meaning, AnswersMeaning, AnswersLine, meaning_of, Run, IsUnbroken, trimmed, output, reply_line, accepted_count, refused_count, AnswersInPart, HoldsPiece, HoldsBytes, HasTold, Fed, FedInPart, Ends, Told, ToldInPart, TellsHeld, WriteFault}
+use Rattle.bench_engine.proofs.Words.{Appends, eqb-suc-zero, false≢true, All-nil, sum_by-append, append-nil, map-append, flat_map-append, State, StoreState, appends_nothing, appends_then, Sends, Session, Reply, World, world, Meaning, AnswersMeaning, meaning_of, Run, IsUnbroken, trimmed, output, reply_line, accepted_count, refused_count, AnswersInPart, HoldsPiece, HoldsBytes, HasTold, Fed, FedInPart, Ends, Told, ToldInPart, TellsHeld, WriteFault}
 use Rattle.bench_engine.proofs.Lines.{splits, splits-one, splits-more, splits-then, splits-on, lines-one, lines-none}
 
 count_by-append : (p : Reply → Bool) (xs ys : List Reply) → count_by p (xs ++ ys) ≡ count_by p xs + count_by p ys
@@ -30,7 +30,7 @@ counted reply false is = rw is (refl, refl)
 
 -- the line that a session holds is answered
 module _ (from to : World) (meaning : Meaning) (old : Session) (reads : (piece : List ℕ) → HoldsPiece old.line piece → meaning ≡ meaning_of (trimmed piece)) where
-  held : (replies : List Reply) → AnswersMeaning from meaning to replies → (piece : List ℕ) → HoldsPiece old.line piece → AnswersLine from (trimmed piece) to replies
+  held : (replies : List Reply) → AnswersMeaning from meaning to replies → (piece : List ℕ) → HoldsPiece old.line piece → AnswersMeaning from (meaning_of (trimmed piece)) to replies
   held replies answers piece holds = subst (λ (m : Meaning). AnswersMeaning from m to replies) (reads piece holds) answers
 
   -- it asks for nothing
@@ -80,7 +80,7 @@ run-append old mid new (line ∷ lines) more xs ys first second =
     (first.0, first.1, first.2 ++ ys, ap (λ x. x ++ ys) first.3 ∙ append_assoc first.1 first.2 ys, first.4, run-append first.0 mid new lines more first.2 ys first.5 second)
 
 -- a run over one line
-run-one : (old new : World) (line : List ℕ) (replies : List Reply) → AnswersLine old line new replies → Run old (line ∷ []) replies new
+run-one : (old new : World) (line : List ℕ) (replies : List Reply) → AnswersMeaning old (meaning_of line) new replies → Run old (line ∷ []) replies new
 run-one old new line replies answered = (new, replies, [], sym (append-nil replies), answered, (refl, refl))
 
 module _ (start mid to : World) (before written written' : Option (List ℕ)) (a r : ℕ) (old new : Session) where

@@ -1,6 +1,6 @@
 -- The answers to a command and to a line, from what the calls that carry them out ensure.
 use Rattle.std.proofs.Common.{◌⊎◌, Bool, IsTrue, Result, ◌≡◌, ◌≢◌, ◌≤◌, ◌+◌, ℕ, suc, false, List, [], ◌∷◌, Some, None, refl, sym, ap, subst, ◌∙◌, inl, inr, arith, Err, Ok}
-use Rattle.bench_engine.proofs.Words.{nat_cmp, eq_by_cmp, is_eq, Less, Equal, Greater, AllByRecursion, FinMap, get, get-entries, find, entries, nat_cmp-IsAntisymmetric, All-from_recursion, Refusal, LineTooLong, OutOfMemory, Command, Line, silent, bad_byte, misspelt, asks, MayLackRoom, Says, parts_take_memory, State, Buffer, StoreState, Array, Reply, refusal, Choice, IsAllowed, Outcome, after_outcome, World, world, Refuses, DoesAlone, Step, Meaning, too_long, says, AnswersMeaning, MayAnswer, MayAnswerLine, IsRefused, CarriesOut, Carried, ReadsAs}
+use Rattle.bench_engine.proofs.Words.{nat_cmp, eq_by_cmp, is_eq, Less, Equal, Greater, AllByRecursion, FinMap, get, get-entries, find, entries, nat_cmp-IsAntisymmetric, All-from_recursion, Refusal, LineTooLong, OutOfMemory, Command, Line, silent, bad_byte, misspelt, asks, MayLackRoom, Says, State, Buffer, StoreState, Array, Reply, refusal, Choice, IsAllowed, Outcome, after_outcome, World, world, Refuses, DoesAlone, Meaning, too_long, says, AnswersMeaning, MayAnswer, IsRefused, CarriesOut, Carried, ReadsAs}
 
 apart : (q k : ℕ) → k ≢ q → eq_by_cmp nat_cmp q k ≡ false
 apart q k ne =
@@ -54,51 +54,33 @@ carried old new shelf may outcome text (Ok done) h = inl (refl, (h.0, h.1, ap (a
 carried old new shelf may outcome text (Err e) h = refused old new shelf may outcome e h.0 h.1
 
 -- a line that asks for a command
-asked : (old new : World) (line : Line) (command : Command) (reply : Reply) → line ≡ asks command → MayAnswer old command new reply → MayAnswerLine old (says line) new (reply ∷ [])
-asked old new line command reply is done = subst (λ (l : Line). MayAnswerLine old (says l) new (reply ∷ [])) (sym is) (reply, refl, inl done)
+asked : (old new : World) (line : Line) (command : Command) (reply : Reply) → line ≡ asks command → MayAnswer old command new reply → AnswersMeaning old (says line) new (reply ∷ [])
+asked old new line command reply is done = subst (λ (l : Line). AnswersMeaning old (says l) new (reply ∷ [])) (sym is) (reply, refl, inl done)
 
-pub answered : (old new : World) (meaning : Meaning) (command : Command) (reply : Reply) → ReadsAs (Ok (Some command)) meaning → MayAnswer old command new reply → MayAnswerLine old meaning new (reply ∷ [])
+pub answered : (old new : World) (meaning : Meaning) (command : Command) (reply : Reply) → ReadsAs (Ok (Some command)) meaning → MayAnswer old command new reply → AnswersMeaning old meaning new (reply ∷ [])
 answered old new too_long command reply is done = cc
 answered old new (says line) command reply is done = asked old new line command reply is done
 
-lacking : (old : World) (line : Line) → MayLackRoom line → MayAnswerLine old (says line) old (refusal OutOfMemory ∷ [])
+lacking : (old : World) (line : Line) → MayLackRoom line → AnswersMeaning old (says line) old (refusal OutOfMemory ∷ [])
 lacking old silent h = absurd h
 lacking old bad_byte h = absurd h
 lacking old misspelt h = (refusal OutOfMemory, refl, inr (refl, refl))
 lacking old (asks command) h = (refusal OutOfMemory, refl, inr (h, (refl, refl)))
 
 -- a line that is refused
-misread : (old : World) (line : Line) (r : Refusal) → Says (Err r) line → MayAnswerLine old (says line) old (refusal r ∷ [])
-misread old line r (inl p) = subst (λ (l : Line). MayAnswerLine old (says l) old (refusal r ∷ [])) (sym p.1) (refusal r, refl, inl (refl, ap refusal p.0))
-misread old line r (inr (inl p)) = subst (λ (l : Line). MayAnswerLine old (says l) old (refusal r ∷ [])) (sym p.1) (refusal r, refl, (refl, ap refusal p.0))
-misread old line r (inr (inr p)) = subst (λ (e : Refusal). MayAnswerLine old (says line) old (refusal e ∷ [])) (sym p.0) (lacking old line p.1)
+misread : (old : World) (line : Line) (r : Refusal) → Says (Err r) line → AnswersMeaning old (says line) old (refusal r ∷ [])
+misread old line r (inl p) = subst (λ (l : Line). AnswersMeaning old (says l) old (refusal r ∷ [])) (sym p.1) (refusal r, refl, inl (refl, ap refusal p.0))
+misread old line r (inr (inl p)) = subst (λ (l : Line). AnswersMeaning old (says l) old (refusal r ∷ [])) (sym p.1) (refusal r, refl, (refl, ap refusal p.0))
+misread old line r (inr (inr p)) = subst (λ (e : Refusal). AnswersMeaning old (says line) old (refusal e ∷ [])) (sym p.0) (lacking old line p.1)
 
-pub refused_line : (old : World) (meaning : Meaning) (r : Refusal) → ReadsAs (Err r) meaning → MayAnswerLine old meaning old (refusal r ∷ [])
+pub refused_line : (old : World) (meaning : Meaning) (r : Refusal) → ReadsAs (Err r) meaning → AnswersMeaning old meaning old (refusal r ∷ [])
 refused_line old too_long r is = let which : r ≡ LineTooLong = cc in (refusal r, refl, (refl, ap refusal which))
 refused_line old (says line) r is = misread old line r is
 
 -- a line that asks for nothing
-nothing_asked : (old : World) (line : Line) → line ≡ silent → MayAnswerLine old (says line) old []
-nothing_asked old line is = subst (λ (l : Line). MayAnswerLine old (says l) old []) (sym is) (refl, refl)
+nothing_asked : (old : World) (line : Line) → line ≡ silent → AnswersMeaning old (says line) old []
+nothing_asked old line is = subst (λ (l : Line). AnswersMeaning old (says l) old []) (sym is) (refl, refl)
 
-pub silent_line : (old : World) (meaning : Meaning) → ReadsAs (Ok None) meaning → MayAnswerLine old meaning old []
+pub silent_line : (old : World) (meaning : Meaning) → ReadsAs (Ok None) meaning → AnswersMeaning old meaning old []
 silent_line old too_long is = cc
 silent_line old (says line) is = nothing_asked old line is
-
--- the answer to a command is a step, or out of memory
-command_weaker : (old new : World) (command : Command) (may : Type 0) (reply : Reply) → MayAnswer old command new reply ⊎ (may × Refuses old new OutOfMemory reply) → Step old command new reply ⊎ Refuses old new OutOfMemory reply
-command_weaker old new command may reply (inl (inl step)) = inl step
-command_weaker old new command may reply (inl (inr lacks)) = inr lacks.1
-command_weaker old new command may reply (inr lacks) = inr lacks.1
-
--- the answer to a line is one that the headline allows
-pub line_weaker : (old new : World) (meaning : Meaning) (replies : List Reply) → MayAnswerLine old meaning new replies → AnswersMeaning old meaning new replies
-line_weaker old new too_long replies is = is
-line_weaker old new (says silent) replies is = is
-line_weaker old new (says bad_byte) replies is = is
-line_weaker old new (says misspelt) replies is = is
-line_weaker old new (says (asks command)) replies is = (is.0, is.1, command_weaker old new command (IsTrue (parts_take_memory command)) is.0 is.2)
-
--- the same for a line that asks for a command
-pub answered_weaker : (old new : World) (meaning : Meaning) (command : Command) (reply : Reply) → ReadsAs (Ok (Some command)) meaning → MayAnswer old command new reply → AnswersMeaning old meaning new (reply ∷ [])
-answered_weaker old new meaning command reply reads done = line_weaker old new meaning (reply ∷ []) (answered old new meaning command reply reads done)

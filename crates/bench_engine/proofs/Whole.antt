@@ -5,9 +5,13 @@ use Rattle.bench_engine.specs.declared.runner.RunFault.TheVariants.{Memory}
 use Rattle.bench_engine.proofs.Lines.{splits-one, lines-front}
 use Rattle.bench_engine.proofs.Known.{all_read}
 
-known : (a b : Option (List ℕ)) (script : List ℕ) → Consumes a b script → IsAtEnd b → IfSome a (λ bytes. script ≡ bytes)
-known None b script read ended = tt
-known (Some bytes) b script read ended = all_read bytes b script read ended
+all-known : (a b : Option (List ℕ)) (script : List ℕ) → Consumes a b script → IsAtEnd b → IfSome a (λ bytes. script ≡ bytes)
+all-known None b script read ended = tt
+all-known (Some bytes) b script read ended = all_read bytes b script read ended
+
+-- If the script was known, the bytes read are that script.
+pub known_script : (depth : ℕ) (before after : Outside) (summary : Summary) (is : AnswersScript depth before after summary) → IfSome before.unread (λ bytes. is.script ≡ bytes)
+known_script depth before after summary is = all-known before.unread after.unread is.script is.read is.ended
 
 -- the session has ended
 pub answers-script : (depth : ℕ) (before after : Outside) (session : Session) (summary : Summary) → Ended depth before after session → summary.bench ≡ session.bench → summary.accepted ≡ session.accepted → summary.refused ≡ session.refused → AnswersScript depth before after summary
@@ -17,7 +21,6 @@ answers-script depth before after session summary end bench accepted refused = r
   replies = end.told.replies;
   read = end.read;
   ended = end.ended;
-  known = known before.unread after.unread end.input end.read end.ended;
   are_lines = end.are_lines;
   run = rw bench end.told.run;
   sent = end.told.sent;
@@ -52,6 +55,11 @@ known-part first shelf (Some script) (Some rest) written written' input lines re
     (lines ++ front.0, subst (λ (bytes : List ℕ). AreLines bytes (lines ++ front.0)) (sym read) front.1, extended lines front.0 first shelf written written' some)
 known-part first shelf (Some script) (Some rest) written written' input lines read (inr come) some = (lines, subst (λ (bytes : List ℕ). AreLines bytes lines) (all_read script (Some rest) input read come.0) come.1, some)
 
+-- If the script was known, a prefix of its lines is answered, and the last reply is cut short.
+pub known_lines : (depth : ℕ) (before after : Outside) → AnswersFirstLines depth before after →
+    IfSome before.unread (λ script. (all : List (List ℕ)) × AreLines script all × AnswersInPart all (first_world depth before) after.store before.written after.written)
+known_lines depth before after is = known-part (first_world depth before) after.store before.unread after.unread before.written after.written is.input is.lines is.read is.are_lines is.some
+
 pub first-lines : (depth : ℕ) (before after : Outside) (input : List ℕ) (lines : List (List ℕ)) → Consumes before.unread after.unread input → AreWholeLines input lines ⊎ (IsAtEnd after.unread × AreLines input lines) →
     AnswersInPart lines (first_world depth before) after.store before.written after.written → AnswersFirstLines depth before after
 first-lines depth before after input lines read come some = record {
@@ -60,7 +68,6 @@ first-lines depth before after input lines read come some = record {
   read = read;
   are_lines = come;
   some = some;
-  known = known-part (first_world depth before) after.store before.unread after.unread before.written after.written input lines read come some;
 }
 
 consumes_none : (known : Option (List ℕ)) → Consumes known known []

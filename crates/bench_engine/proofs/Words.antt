@@ -2,13 +2,13 @@
 pub use Rattle.array_print.specs.declared.bands.WriteFault.{WriteFault}
 pub use Rattle.bench_engine.specs.Contents.{Contents, array_over, contents_of, integer_scalar, new_contents, new_contents_in, places_in, zero_item, zero_of}
 unfoldable pub use Rattle.bench_engine.specs.Contents.{arange_contents, array_contents, array_type, full_contents, range_scalar, zeros_contents}
-pub use Rattle.bench_engine.specs.Headline.{AnswersFirstLines, AnswersInPart, AnswersLine, AnswersMeaning, AnswersScript, AnswersWholeLines, AreLines, AreWholeLines, ComesTo, IsUnbroken, Meaning, Outside, Run, Splits, accepted_count, first_world, if_any, limit, output, outside, refused_count, reply_line, says, too_long, trimmed}
+pub use Rattle.bench_engine.specs.Headline.{AnswersFirstLines, AnswersInPart, AnswersMeaning, AnswersScript, AnswersWholeLines, AreLines, AreWholeLines, ComesTo, IsUnbroken, Meaning, Outside, RisesBy, Run, Splits, accepted_count, first_world, if_any, limit, output, outside, refused_count, reply_line, says, too_long, trimmed}
 unfoldable pub use Rattle.bench_engine.specs.Headline.{meaning_of}
 pub use Rattle.bench_engine.specs.IndexLists.{array_by_items, by_items, names_in_index, names_in_item, taken}
 unfoldable pub use Rattle.bench_engine.specs.IndexLists.{gathered}
 pub use Rattle.bench_engine.specs.Machine.{Choice, IsAllowed, OperandValues, Outcome, ViewOrCopy, a_copy, a_view, accepted_with, after_outcome, argument_items, argument_values, as_copy, bound_new, bound_seen, changed_with, compute_outcome, literal_scalar, literal_value, literal_values, names_in_argument, names_in_viewing, new_items, one_item, operand_values, operation_item, operation_with, part_seen, question_outcome, seen, under_shape, updated, viewed, write_reply}
 unfoldable pub use Rattle.bench_engine.specs.Machine.{cast_contents, cast_items, cast_outcome, compared_literal, computed_outcome, copied_contents, copy_outcome, creation_outcome, delete_outcome, format_outcome, info_outcome, operand_of_literal, operand_part, operation_contents, operation_on, operation_scalar, print_outcome, reduced_contents, reshaped, shares_outcome, target_part, transformed, undo_outcome, updated_items, view_outcome, write_outcome}
-pub use Rattle.bench_engine.specs.Memory.{MayAnswer, MayAnswerLine, bound_in_computation, may_lack_memory}
+pub use Rattle.bench_engine.specs.Memory.{MayAnswer, bound_in_computation, may_lack_memory}
 pub use Rattle.bench_engine.specs.Replies.{Reply, Tells, bound_text, format_text, info_text, names_text, refusal, shares_text}
 pub use Rattle.bench_engine.specs.Sessions.{Ends, Fed, FedInPart, Feeds, HasTold, HoldsBytes, HoldsPiece, IsNew}
 pub use Rattle.bench_engine.specs.Steps.{DoesAlone, Found, LoadStep, MayFind, Refuses, SaveStep, Step, Stored, World, bound_loaded, loaded, loaded_contents, save_reply, store_refusal, world}

@@ -1,12 +1,13 @@
 -- The headline: the outcome of a run, for every script, store and undo depth. `run` ensures `ComesTo`, the last
--- definition. Each definition uses those above it, and `Step`, a step of the machine.
-use Rattle.std.specs.Prelude.{◌≡◌, ◌≢◌, ◌⊎◌, ◌<◌, ◌-◌, ℕ, List, [], ◌∷◌, ◌++◌, length, map, take, count_by, not, nat_eq, nat_lt, if◌then◌else◌, All, Option, IfSome, Result, Ok, Err}
-use Rattle.bench_engine.specs.Words.{Appends, Consumes, IsAtEnd, ends_with, flat_map, LineTooLong, ByteNotAllowed, Syntax, OutOfMemory, Line, line_of, silent, bad_byte, misspelt, asks, State, start, StoreState}
+-- definition. Each definition uses those above it, and `MayAnswer`, the answer to a command.
+use Rattle.std.specs.Prelude.{◌≡◌, ◌≢◌, ◌⊎◌, ◌<◌, ◌≤◌, ◌+◌, ◌-◌, ℕ, List, [], ◌∷◌, ◌++◌, length, map, take, count_by, not, nat_eq, nat_lt, if◌then◌else◌, All, Option, Some, None, IsTrue, Result, Ok, Err}
+use Rattle.bench_engine.specs.Words.{Appends, Consumes, IsAtEnd, ends_with, flat_map, LineTooLong, ByteNotAllowed, Syntax, OutOfMemory, Line, line_of, silent, bad_byte, misspelt, asks, parts_take_memory, State, start, StoreState}
 use Rattle.bench_engine.specs.declared.session.Summary.{Summary}
 use Rattle.bench_engine.specs.declared.runner.RunFault.{RunFault}
 use Rattle.bench_engine.specs.declared.runner.RunFault.TheVariants.{Read, Write, Memory}
 use Rattle.bench_engine.specs.Replies.{Reply}
-use Rattle.bench_engine.specs.Steps.{World, world, Refuses, Step}
+use Rattle.bench_engine.specs.Steps.{World, world, Refuses}
+use Rattle.bench_engine.specs.Memory.{MayAnswer}
 
 -- ---- how a line may be answered
 
@@ -26,22 +27,19 @@ meaning_of line = if nat_lt limit (length line) then too_long else says (line_of
 abbrev pub OneReply : List Reply → (Reply → Type 0) → Type 0
 OneReply replies P = (reply : Reply) × (replies ≡ reply ∷ []) × P reply
 
--- A command is a step of the machine, or it is refused as out of memory with nothing changed.
+-- A command is answered as `MayAnswer` says. If reading its parts takes memory, this may also run out, with nothing
+-- changed.
 abbrev pub AnswersMeaning : World → Meaning → World → List Reply → Type 0
 AnswersMeaning old too_long new replies = OneReply replies (Refuses old new LineTooLong)
 AnswersMeaning old (says silent) new replies = (new ≡ old) × (replies ≡ [])
 AnswersMeaning old (says bad_byte) new replies = OneReply replies (Refuses old new ByteNotAllowed)
 AnswersMeaning old (says misspelt) new replies = OneReply replies (λ reply. Refuses old new Syntax reply ⊎ Refuses old new OutOfMemory reply)
-AnswersMeaning old (says (asks command)) new replies = OneReply replies (λ reply. Step old command new reply ⊎ Refuses old new OutOfMemory reply)
-
--- the ways to answer a line, with the world and the replies after it
-abbrev pub AnswersLine : World → List ℕ → World → List Reply → Type 0
-AnswersLine old line new replies = AnswersMeaning old (meaning_of line) new replies
+AnswersMeaning old (says (asks command)) new replies = OneReply replies (λ reply. MayAnswer old command new reply ⊎ (IsTrue (parts_take_memory command) × Refuses old new OutOfMemory reply))
 
 -- the lines are answered one after the other
 abbrev pub Run : World → List (List ℕ) → List Reply → World → Type 0
 Run old [] replies new = (replies ≡ []) × (new ≡ old)
-Run old (line ∷ lines) replies new = (mid : World) × (first rest : List Reply) × (replies ≡ first ++ rest) × AnswersLine old line mid first × Run mid lines rest new
+Run old (line ∷ lines) replies new = (mid : World) × (first rest : List Reply) × (replies ≡ first ++ rest) × AnswersMeaning old (meaning_of line) mid first × Run mid lines rest new
 
 -- ---- the lines of a script
 
@@ -89,6 +87,18 @@ refused_count replies = count_by (λ r. not r.accepted) replies
 
 -- ---- the outcome of a run
 
+-- The count, if there is one, rises by this number.
+abbrev pub RisesBy : Option ℕ → Option ℕ → ℕ → Type 0
+RisesBy (Some before) (Some after) n = after ≡ before + n
+RisesBy None None n = Unit {0}
+RisesBy before after n = ⊥
+
+-- It rises by at most this number.
+abbrev pub RisesAtMost : Option ℕ → Option ℕ → ℕ → Type 0
+RisesAtMost (Some before) (Some after) n = after ≤ before + n
+RisesAtMost None None n = Unit {0}
+RisesAtMost before after n = ⊥
+
 -- The surroundings of a run: the bytes still to be read and the bytes written, if they are known, and the store of
 -- files.
 pub record Outside : Type 0 where
@@ -103,16 +113,15 @@ outside unread written store = record { unread = unread; written = written; stor
 abbrev pub first_world : ℕ → Outside → World
 first_world depth before = world (start depth) before.store
 
--- The bytes read are a whole script, up to the end of the input. If the script was known, they are that script. A run
--- of the machine answers its lines, and ends with the summary's bench and the files in the store. Exactly its replies
--- are written, and the summary counts them.
+-- The bytes read are a whole script, up to the end of the input. A run of the machine answers its lines, and ends with
+-- the summary's bench and the files in the store. Exactly its replies are written, and the summary counts them. If the
+-- script was known, the bytes read are that script: lemma `known_script` in `proofs/Whole.antt`.
 pub record AnswersScript (depth : ℕ) (before after : Outside) (summary : Summary) : Type 0 where
   pub script : List ℕ
   pub lines : List (List ℕ)
   pub replies : List Reply
   pub read : Consumes before.unread after.unread script
   pub ended : IsAtEnd after.unread
-  pub known : IfSome before.unread (λ bytes. script ≡ bytes)
   pub are_lines : AreLines script lines
   pub run : Run (first_world depth before) lines replies (world summary.bench.state after.store)
   pub sent : Appends before.written after.written (output replies)
@@ -131,7 +140,7 @@ pub record AnswersWholeLines (depth : ℕ) (before after : Outside) : Type 0 whe
   pub sent : Appends before.written after.written (output replies)
 
 -- The source may be read if no read has failed, each line that a newline ends is answered, and all replies are written.
-abbrev pub ReadsInTime : {S : Type 0} → (S → Option (List ℕ)) → (S → ℕ) → (S → Option (List ℕ) → Type 0) → ℕ → S → Outside → Type 0
+abbrev pub ReadsInTime : {S : Type 0} → (S → Option (List ℕ)) → (S → Option ℕ) → (S → Option (List ℕ) → Type 0) → ℕ → S → Outside → Type 0
 ReadsInTime {S} remaining failures MayRead depth source before =
     (now : S) (written : Option (List ℕ)) (store : StoreState) → failures now ≡ failures source
     → AnswersWholeLines depth before (outside (remaining now) written store) → MayRead now written
@@ -153,14 +162,14 @@ pub record AnswersInPart (lines : List (List ℕ)) (first : World) (shelf : Stor
   pub sent : Appends written written' (output replies ++ gone)
 
 -- A prefix of the lines is answered, and the last reply is cut short. The lines are those that a newline ends in the
--- bytes read, or all lines if the input has ended. If the script was known, the same holds for all lines of the script.
+-- bytes read, or all lines if the input has ended. If the script was known, the same holds for all lines of the script:
+-- lemma `known_lines` in `proofs/Whole.antt`.
 pub record AnswersFirstLines (depth : ℕ) (before after : Outside) : Type 0 where
   pub input : List ℕ
   pub lines : List (List ℕ)
   pub read : Consumes before.unread after.unread input
   pub are_lines : AreWholeLines input lines ⊎ (IsAtEnd after.unread × AreLines input lines)
   pub some : AnswersInPart lines (first_world depth before) after.store before.written after.written
-  pub known : IfSome before.unread (λ script. (all : List (List ℕ)) × AreLines script all × AnswersInPart all (first_world depth before) after.store before.written after.written)
 
 -- After `Ok`, the whole script is answered. After `Read` (a read failed, or there were too many), the lines that a
 -- newline ends are answered. After `Write`, a prefix of the lines is answered, and the last reply is cut short. After

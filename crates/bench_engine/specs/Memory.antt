@@ -1,7 +1,6 @@
--- When a command may be refused as out of memory. `execute` and `answer` promise this in addition to a step of the
--- machine.
+-- How a command may be answered: by a step of the machine, or, only where it may lack memory, as out of memory.
 use Rattle.std.specs.Prelude.{◌⊎◌, ℕ, Bool, true, false, IsTrue, ◌&&◌, ◌++◌, List, [], ◌∷◌, nat_lt}
-use Rattle.bench_engine.specs.Words.{list_all, OutOfMemory, Computation, Value, Question, Command, asks, parts_take_memory, State, is_bound}
+use Rattle.bench_engine.specs.Words.{list_all, OutOfMemory, Computation, Value, Question, Command, State, is_bound}
 use Rattle.script_lang.specs.declared.command.Computation.TheVariants as computation
 use Rattle.script_lang.specs.declared.command.Value.TheVariants as value
 use Rattle.script_lang.specs.declared.command.Question.TheVariants as question
@@ -10,7 +9,6 @@ use Rattle.bench_engine.specs.IndexLists.{names_in_index}
 use Rattle.bench_engine.specs.Machine.{names_in_viewing, names_in_operand, names_in_argument}
 use Rattle.bench_engine.specs.Replies.{Reply}
 use Rattle.bench_engine.specs.Steps.{World, Refuses, Step}
-use Rattle.bench_engine.specs.Headline.{Meaning, says, OneReply, AnswersMeaning}
 
 -- ---- the names that must be bound for a command, from left to right
 
@@ -62,8 +60,3 @@ may_lack_memory s command = asks_for_memory s command && list_all (is_bound s) (
 -- The command is a step of the machine, or, if it may lack memory, it is refused as out of memory.
 abbrev pub MayAnswer : World → Command → World → Reply → Type 0
 MayAnswer old command new reply = Step old command new reply ⊎ (IsTrue (may_lack_memory old.state command) × Refuses old new OutOfMemory reply)
-
--- The same for a line. If parsing its command takes memory, this may also run out.
-abbrev pub MayAnswerLine : World → Meaning → World → List Reply → Type 0
-MayAnswerLine old (says (asks command)) new replies = OneReply replies (λ reply. MayAnswer old command new reply ⊎ (IsTrue (parts_take_memory command) × Refuses old new OutOfMemory reply))
-MayAnswerLine old meaning new replies = AnswersMeaning old meaning new replies

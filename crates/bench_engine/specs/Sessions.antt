@@ -2,7 +2,7 @@
 use Rattle.std.specs.Prelude.{◌≡◌, ◌<◌, ◌+◌, ℕ, Bool, true, false, List, [], ◌++◌, length, map, Option, Result, Ok, Err}
 use Rattle.bench_engine.specs.Words.{Appends, start, StoreState}
 use Rattle.array_print.specs.declared.bands.WriteFault.{WriteFault}
-use Rattle.bench_engine.specs.declared.session.HeldLine.{HeldLine}
+use Rattle.bench_engine.specs.declared.line.HeldLine.{HeldLine}
 use Rattle.bench_engine.specs.declared.session.Session.{Session}
 use Rattle.bench_engine.specs.Replies.{Reply}
 use Rattle.bench_engine.specs.Steps.{World, world}

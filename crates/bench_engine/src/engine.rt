@@ -1,13 +1,13 @@
 //! Carries out one line, and makes its reply.
 ghost use Rattle.std.specs.Prelude.{◌≡◌, List};
-ghost use Rattle.bench_engine.specs.Clauses.{Carried, Reply, Tells, world, meaning_of, Meaning, AnswersLine, MayAnswer, MayAnswerLine, ReadsAs, meaning_of_read};
+ghost use Rattle.bench_engine.specs.Clauses.{Carried, Reply, Tells, world, meaning_of, Meaning, AnswersMeaning, MayAnswer, ReadsAs, meaning_of_read};
 
 use crate::ask::reply;
 use crate::create::make;
 use crate::files::{load, save};
+use crate::line::{Line, MAX_LINE_LEN};
 use crate::operate::compute;
 use crate::reply_text::ReplyText;
-use crate::session::{Line, MAX_LINE_LEN};
 use crate::view::view;
 use crate::write::{Selection, set};
 use elem_descr::{Name, Refusal};
@@ -107,7 +107,7 @@ pub fn respond<N: NpyStore>(
 ) -> Option<bool>
     ensures { (meaning : Meaning) → ReadsAs read meaning → (replies : List Reply)
         × Tells replies result out.new
-        × MayAnswerLine (world bench.old.state (N.shelf store.old)) meaning
+        × AnswersMeaning (world bench.old.state (N.shelf store.old)) meaning
         (world bench.new.state (N.shelf store.new)) replies }
 {
     match read {
@@ -136,12 +136,8 @@ pub fn answer<N: NpyStore>(
     line: &[u8],
     out: &mut ReplyText,
 ) -> Option<bool>
-    ensures answered { (replies : List Reply) × Tells replies result out.new
-        × AnswersLine (world bench.old.state (N.shelf store.old)) line.now
-        (world bench.new.state (N.shelf store.new)) replies }
-    // The reply is `out of memory` only if the command may ask for memory.
-    ensures memory { (replies : List Reply) × Tells replies result out.new
-        × MayAnswerLine (world bench.old.state (N.shelf store.old)) (meaning_of line.now)
+    ensures { (replies : List Reply) × Tells replies result out.new
+        × AnswersMeaning (world bench.old.state (N.shelf store.old)) (meaning_of line.now)
         (world bench.new.state (N.shelf store.new)) replies }
 {
     let read = read_line(out.allocator(), Line::Held(line));

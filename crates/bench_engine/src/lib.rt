@@ -7,6 +7,7 @@ mod create;
 mod engine;
 mod files;
 mod index_list;
+mod line;
 mod operate;
 mod printing;
 mod replies;

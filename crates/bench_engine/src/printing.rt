@@ -3,8 +3,8 @@ ghost use Rattle.std.specs.Prelude.{◌≡◌, IfOk, OnErr};
 ghost use Rattle.bench_engine.specs.Clauses.{Sends, SendsPart, Reply, MayPrint, SendsAnswer, world, meaning_of_read};
 
 use crate::engine::{read_line, respond};
+use crate::line::Line;
 use crate::reply_text::ReplyText;
-use crate::session::Line;
 use array_print::{PrintFault, WriteFault};
 use elem_descr::{Name, Refusal};
 use name_store::Bench;

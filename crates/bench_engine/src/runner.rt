@@ -1,7 +1,7 @@
 //! A whole run: it reads a script and writes the replies.
-ghost use Rattle.std.specs.Prelude.{◌≡◌, ◌≤◌, ◌<◌, ◌+◌, List, ℕ, Option, IsSome, length, take, MatchOption, ◌*◌, ◌^◌, IfOk, OnOk, IsErrOf};
+ghost use Rattle.std.specs.Prelude.{◌≡◌, ◌≤◌, ◌<◌, ◌+◌, ◌⊎◌, List, ℕ, Option, None, IsSome, IsNone, length, take, MatchOption, ◌*◌, ◌^◌, IfOk, OnOk, IsErrOf};
 ghost use Rattle.bench_engine.specs.Words.{Consumes, Keeps, IsAtEnd};
-ghost use Rattle.bench_engine.specs.Headline.{Outside, outside, ReadsInTime, ComesTo};
+ghost use Rattle.bench_engine.specs.Headline.{Outside, outside, RisesBy, RisesAtMost, ReadsInTime, ComesTo};
 ghost use Rattle.bench_engine.specs.inside.Sessions.{Reading, Turned};
 ghost use Rattle.bench_engine.specs.declared.runner.RunFault.TheVariants.{Write, Memory};
 
@@ -19,10 +19,10 @@ pub trait ScriptSource {
     ghost remaining: { Self → Option (List ℕ) };
 
     // How many reads were made, if they are counted.
-    ghost reads: { Self → ℕ };
+    ghost reads: { Self → Option ℕ };
 
     // How many reads have failed, if they are counted.
-    ghost failures: { Self → ℕ };
+    ghost failures: { Self → Option ℕ };
 
     // Whether the source may be read once these bytes are written. Most sources may be read at any
     // time.
@@ -34,8 +34,10 @@ pub trait ScriptSource {
         requires some { 0 < length chunk.old }
         requires size { length chunk.old ≤ 65538 }
         requires may { MayRead self.old (W.contents writer.now) }
+        ensures counted { RisesAtMost (reads self.old) (reads self.new) 1 }
+        ensures one { IsSome result → RisesBy (reads self.old) (reads self.new) 1 }
         ensures well { IsSome result → failures self.new ≡ failures self.old }
-        ensures counted { reads self.new ≤ reads self.old + 1 }
+        ensures failed { IsNone result → RisesBy (failures self.old) (failures self.new) 1 }
         ensures bytes { MatchOption result (Keeps (remaining self.old) (remaining self.new))
             (λ n. (n ≤ length chunk.new)
             × Consumes (remaining self.old) (remaining self.new) (take n chunk.new)
@@ -45,9 +47,9 @@ pub trait ScriptSource {
 impl<R: Read> ScriptSource for R {
     ghost remaining = { R.remaining };
 
-    ghost reads = { λ _. 0 };
+    ghost reads = { λ _. None };
 
-    ghost failures = { λ _. 0 };
+    ghost failures = { λ _. None };
 
     ghost MayRead = { λ _ _. Unit {0} };
 
@@ -59,7 +61,7 @@ impl<R: Read> ScriptSource for R {
 /// Why a run stops before the end of its script.
 #[derive(Clone, Copy, Debug, PartialEq, Eq, Error)]
 pub enum RunFault {
-    /// A read failed, or there were too many reads.
+    /// A read failed, or there were 2^32 reads.
     #[error("read fault")]
     Read,
     /// A write failed or took nothing.
@@ -106,8 +108,11 @@ fn take_turn<S: ScriptSource, W: Write, N: NpyStore>(
     requires few { session.old.accepted + session.old.refused + length chunk.old < 2 ^ 50 }
     ensures few { session.new.accepted + session.new.refused
         ≤ session.old.accepted + session.old.refused + length chunk.old }
-    ensures counted { S.reads source.new ≤ S.reads source.old + 1 }
+    ensures counted { RisesAtMost (S.reads source.old) (S.reads source.new) 1 }
+    ensures one { OnOk result (RisesBy (S.reads source.old) (S.reads source.new) 1) }
     ensures well { OnOk result (S.failures source.new ≡ S.failures source.old) }
+    ensures failed { IsErrOf result RunFault.Read →
+        RisesBy (S.failures source.old) (S.failures source.new) 1 }
     ensures memory { ¬ IsErrOf result RunFault.Memory }
     ensures turned { (depth : ℕ) (before : Outside) →
         Reading depth before (outside (S.remaining source.old) (W.contents writer.old)
@@ -160,7 +165,11 @@ pub fn run_within<S: ScriptSource, W: Write, N: NpyStore>(
     // No read has failed.
     ensures reads_well { OnOk result (S.failures source.new ≡ S.failures source.old) }
     // There are at most this many reads.
-    ensures reads { S.reads source.new ≤ S.reads source.old + limits.reads }
+    ensures reads { RisesAtMost (S.reads source.old) (S.reads source.new) limits.reads }
+    // A read fault means that a read failed, or that there were as many reads as there may be.
+    ensures read_fault { IsErrOf result RunFault.Read →
+        RisesBy (S.failures source.old) (S.failures source.new) 1
+        ⊎ RisesBy (S.reads source.old) (S.reads source.new) limits.reads }
     ensures counts { IfOk result (λ summary. summary.accepted + summary.refused
         ≤ 65538 * limits.reads) }
 {
@@ -205,7 +214,11 @@ pub fn run<S: ScriptSource, W: Write, N: NpyStore>(
     // No read has failed.
     ensures reads_well { OnOk result (S.failures source.new ≡ S.failures source.old) }
     // There are at most this many reads.
-    ensures reads { S.reads source.new ≤ S.reads source.old + 2 ^ 32 }
+    ensures reads { RisesAtMost (S.reads source.old) (S.reads source.new) (2 ^ 32) }
+    // A read fault means that a read failed, or that there were as many reads as there may be.
+    ensures read_fault { IsErrOf result RunFault.Read →
+        RisesBy (S.failures source.old) (S.failures source.new) 1
+        ⊎ RisesBy (S.reads source.old) (S.reads source.new) (2 ^ 32) }
     ensures counts { IfOk result (λ summary. summary.accepted + summary.refused < 2 ^ 49) }
 {
     let limits = Limits {

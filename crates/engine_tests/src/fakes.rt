@@ -1,5 +1,5 @@
 //! Readers that give little or fail, one that counts its reads, and writers that take little.
-ghost use Rattle.std.specs.Prelude.{Some};
+ghost use Rattle.std.specs.Prelude.{None, Some};
 
 use bench_engine::ScriptSource;
 use std::io;
@@ -67,15 +67,17 @@ impl<'a> Counted<'a> {
 impl<'a> ScriptSource for Counted<'a> {
     ghost remaining = { λ counted. Some counted.rest.now };
 
-    ghost reads = { λ counted. counted.reads };
+    ghost reads = { λ counted. Some counted.reads };
 
-    ghost failures = { λ _. 0 };
+    ghost failures = { λ _. None };
 
     ghost MayRead = { λ _ _. Unit {0} };
 
     fn read_some<W: Write>(&mut self, _writer: &W, chunk: &mut [u8]) -> Option<usize> {
-        self.reads = self.reads.checked_add(1)?;
-        self.rest.read(chunk).ok()
+        let reads = self.reads.checked_add(1)?;
+        let count = self.rest.read(chunk).ok()?;
+        self.reads = reads;
+        Some(count)
     }
 }
 

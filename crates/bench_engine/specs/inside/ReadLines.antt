@@ -1,8 +1,8 @@
 -- What a line means once it is read.
 use Rattle.std.specs.Prelude.{IsErrOf, Option, Result}
 use Rattle.bench_engine.specs.Words.{Refusal, LineTooLong, Command, Says}
-use Rattle.bench_engine.specs.declared.session.Line.{Line as ReadLine}
-use Rattle.bench_engine.specs.declared.session.Line.TheVariants.{Held, TooLong}
+use Rattle.bench_engine.specs.declared.line.Line.{Line as ReadLine}
+use Rattle.bench_engine.specs.declared.line.Line.TheVariants.{Held, TooLong}
 use Rattle.bench_engine.specs.Headline.{Meaning, too_long, says, meaning_of}
 
 -- the meaning of a line that was read

@@ -7,13 +7,13 @@ use Rattle.bench_engine.specs.declared.runner.RunFault.{RunFault}
 use Rattle.bench_engine.specs.declared.runner.RunFault.TheVariants.{Read, Write, Memory}
 use Rattle.bench_engine.specs.Replies.{Reply}
 use Rattle.bench_engine.specs.Steps.{World, world}
-use Rattle.bench_engine.specs.Headline.{AnswersLine, trimmed, AreLines, output, reply_line, accepted_count, refused_count, Outside, first_world, AnswersWholeLines, AnswersFirstLines}
+use Rattle.bench_engine.specs.Headline.{AnswersMeaning, meaning_of, trimmed, AreLines, output, reply_line, accepted_count, refused_count, Outside, first_world, AnswersWholeLines, AnswersFirstLines}
 use Rattle.bench_engine.specs.Sessions.{HoldsPiece, HasTold, Fed}
 
 -- The held line is answered, and the session has written and counted the reply.
 pub record Told (from to : World) (written written' : Option (List ℕ)) (old new : Session) : Type 0 where
   pub replies : List Reply
-  pub answers : (piece : List ℕ) → HoldsPiece old.line piece → AnswersLine from (trimmed piece) to replies
+  pub answers : (piece : List ℕ) → HoldsPiece old.line piece → AnswersMeaning from (meaning_of (trimmed piece)) to replies
   pub sent : Appends written written' (output replies)
   pub accepted : new.accepted ≡ old.accepted + accepted_count replies
   pub refused : new.refused ≡ old.refused + refused_count replies
@@ -21,7 +21,7 @@ pub record Told (from to : World) (written written' : Option (List ℕ)) (old ne
 -- The held line is answered, and the reply is cut short: at least its newline is missing.
 pub record ToldInPart (from to : World) (written written' : Option (List ℕ)) (old : Session) : Type 0 where
   pub reply : Reply
-  pub answers : (piece : List ℕ) → HoldsPiece old.line piece → AnswersLine from (trimmed piece) to (reply ∷ [])
+  pub answers : (piece : List ℕ) → HoldsPiece old.line piece → AnswersMeaning from (meaning_of (trimmed piece)) to (reply ∷ [])
   pub gone : List ℕ
   pub missing : List ℕ
   pub broken : reply_line reply ≡ gone ++ missing

@@ -1,5 +1,6 @@
 use Rattle.std.proofs.Common.{arith, refl, ◌∙◌}
 use Rattle.bench_engine.proofs.Words.{err_from_is_err_and}
+use Rattle.bench_engine.proofs.Counts.{rises_by-zero, rises_by-then}
 use Rattle.bench_engine.proofs.Whole.{answers-script, ended-by, reading-new, whole-lines}
 use Rattle.bench_engine.proofs.runner.run_within.Goals as goal
 
@@ -20,7 +21,7 @@ pub loop-turn-init : goal.loop-turn-init
 loop-turn-init g c = record {
   few = omega (arith, c.in_ok-session.ensures.accepted, c.in_ok-session.ensures.refused);
   chunk = c.in_ok-chunk.ensures.len;
-  counted = omega arith;
+  counted = rises_by-zero _;
   well = refl;
   fed = reading-new _ _ c.in_ok-session.session c.in_ok-session.ensures;
 }
@@ -29,7 +30,7 @@ pub loop-turn-preserved : goal.loop-turn-preserved
 loop-turn-preserved g c = record {
   few = omega (arith, c.take_turn.ensures.few, c.as_mut_slice.ensures.len);
   chunk = c.loop-turn.invariant.chunk;
-  counted = omega (arith, c.take_turn.ensures.counted, c.loop-turn.invariant.counted);
+  counted = rises_by-then _ _ _ c.loop-turn.turn 1 _ (omega arith) c.loop-turn.invariant.counted c.in_ok-take_turn.ensures.one;
   well = c.in_ok-take_turn.ensures.well ∙ c.loop-turn.invariant.well;
   fed = rw c.if-branch.false at (c.in_ok-take_turn.ensures.turned _ _ c.loop-turn.invariant.fed);
 }

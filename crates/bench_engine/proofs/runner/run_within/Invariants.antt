@@ -1,5 +1,5 @@
 use Rattle.std.proofs.Common.{◌≡◌, ◌≤◌, ◌+◌, ◌*◌, vec_len}
-use Rattle.bench_engine.proofs.Words.{outside, Reading}
+use Rattle.bench_engine.proofs.Words.{outside, Reading, RisesBy}
 use Rattle.bench_engine.proofs.runner.run_within.Given as goal
 
 -- the session was fed what was read so far
@@ -7,7 +7,7 @@ abbrev pub invariant-loop-turn : goal.invariant-loop-turn
 invariant-loop-turn g l = record {
   few : l.session.accepted + l.session.refused ≤ 65538 * l.turn;
   chunk : vec_len l.chunk ≡ l.fn.limits.size;
-  counted : g.S.ScriptSource.reads l.source ≤ g.S.ScriptSource.reads l.fn.source + l.turn;
+  counted : RisesBy (g.S.ScriptSource.reads l.fn.source) (g.S.ScriptSource.reads l.source) l.turn;
   well : g.S.ScriptSource.failures l.source ≡ g.S.ScriptSource.failures l.fn.source;
   fed : Reading l.fn.limits.depth
       (outside (g.S.ScriptSource.remaining l.fn.source) (g.W.Write.contents l.fn.writer) (g.N.NpyStore.shelf l.fn.store))
