@@ -48,7 +48,8 @@ reads = man/bench.1:share/man/man1/bench.1 man/bench-tool.1:share/man/man1/bench
 	$(call below,companion/bench_tool,lib/bench-tool/bench_tool) docs/LANGUAGE.md:lib/bench-tool/LANGUAGE.md \
 	$(foreach file,$(wildcard dist/bench.html),$(file):lib/bench-tool/bench.html) \
 	$(foreach file,$(wildcard README.md CHANGELOG.md LICENSE* docs/*.md docs/pictures/*),$(file):share/doc/bench/$(file)) \
-	$(if $(library),$(library)/libbench.so.1:lib/libbench.so.1 $(library)/libbench.a:lib/libbench.a library/bench.h:include/bench.h library/bench.pc:lib/pkgconfig/bench.pc)
+	$(if $(library),$(library)/libbench.so.1:lib/libbench.so.1 $(library)/libbench.a:lib/libbench.a library/bench.h:include/bench.h \
+		library/bench_test.hpp:include/bench_test.hpp library/bench.pc:lib/pkgconfig/bench.pc library/bench-config.cmake:lib/cmake/bench/bench-config.cmake)
 
 install:
 	@[ -n "$(program)" ] || { echo "bench: no program: \`make\` builds it" >&2; exit 3; }

@@ -74,8 +74,8 @@ int bench_get(struct bench_handle *bench, const void *name, size_t name_length, 
  * To list all files, begin with the empty name and pass each name to the next call, until BENCH_NO_FILE. */
 int bench_file(struct bench_handle *bench, const void *name, size_t name_length, void *out, size_t room, size_t *length);
 
-/* The calls for arrays take the name of an array in place of a line. If they refuse it, the status is BENCH_REFUSED and the reply
- * is that of a refused line, such as "no E06 unknown name". Otherwise, only bench_put_array changes the reply. */
+/* The calls for arrays take the name of an array in place of a line. If they are refused, the status is BENCH_REFUSED, and the reply
+ * says why, as that of a line does: "no E06 unknown name", or "no E40 out of memory". Otherwise only bench_put_array changes it. */
 
 enum { BENCH_MAX_AXES = 64 };
 
@@ -91,20 +91,21 @@ struct bench_array {
 /* Sets *array to what is known about an array. */
 int bench_info(struct bench_handle *bench, const void *name, size_t name_length, struct bench_array *array);
 
-/* Copies the type of an array, such as "<i4" or the format of a record, to `out`, and sets *length as bench_get does. */
+/* Copies the type of an array, such as "<i4" or the format of a record, to `out`, and sets *length as bench_reply does. */
 int bench_type(struct bench_handle *bench, const void *name, size_t name_length, void *out, size_t room, size_t *length);
 
-/* Copies the items of an array of bools or integers to `out`, in C order, each as an int64_t, and sets *count to their number,
- * which may be more than `room` (BENCH_NO_ROOM). An unsigned integer above 2^63 - 1 keeps its 64 bits, so it becomes negative:
- * cast it to uint64_t. Byte strings and records are refused, "no E33 no such cast". */
+/* Copies the items of an array of bools or integers to `out`, in C order, each as an int64_t, and sets *count to their number. If
+ * that is more than `room` (BENCH_NO_ROOM), nothing is copied. An unsigned integer above 2^63 - 1 keeps its 64 bits, and so becomes
+ * negative: cast it to uint64_t. Byte strings and records are refused, "no E33 no such cast". */
 int bench_items(struct bench_handle *bench, const void *name, size_t name_length, int64_t *out, size_t room, size_t *count);
 
 /* Copies the items of an array to `out`, in C order, each in the bytes of its own type, and sets *length to the number of bytes, as
- * bench_get does. The bytes are those that `save` would write after the header of an NPY file, if the array is in C order. */
+ * bench_reply does. It is what an NPY file has after its header. */
 int bench_get_array(struct bench_handle *bench, const void *name, size_t name_length, void *out, size_t room, size_t *length);
 
-/* Binds a name to a new array of this type and shape. `items` are the bytes of its items in C order, and `length` is their number:
- * items times bytes of an item. The reply is that of a command, such as "ok a <i4 (2, 3) new", and `undo` takes it back. */
+/* Binds a name to a new array of this type, such as "<i4" or the format of a record, and this shape. `items` are its items in C
+ * order, as bench_get_array copies them; if `length` is not the number of their bytes, the reply is "no E32 number of values".
+ * Otherwise it is that of a command, such as "ok a <i4 (2, 3) new". `undo` takes the binding back. */
 int bench_put_array(struct bench_handle *bench, const void *name, size_t name_length, const void *type, size_t type_length,
                     const size_t *shape, size_t axes, const void *items, size_t length);
 

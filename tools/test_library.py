@@ -4,6 +4,7 @@ import ctypes
 import itertools
 import os
 import pathlib
+import re
 import shutil
 import subprocess
 import tempfile
@@ -11,6 +12,7 @@ import unittest
 import unittest.mock
 
 from trials.companion_trials import InFolder, PROGRAM, TOP, needs_compiler, needs_program, share, works
+from trials.library_trials import ARCHIVE, PLACE, SHARED, has, needs_arrays, needs_library
 from bench_tool import Session, library
 
 try:
@@ -19,13 +21,10 @@ try:
 except ImportError:
     hypothesis = None
 
-PLACE = next((path for path in (TOP / "out/library", TOP / "dist") if (path / "libbench.so.1").is_file()), pathlib.Path("/nowhere"))
-SHARED, ARCHIVE = PLACE / "libbench.so.1", PLACE / "libbench.a"
 EXAMPLES = [path for path in sorted((TOP / "examples").glob("*.bench")) if "load" not in path.read_text()]
 FLAGS = ["-O1", "-g", "-std=gnu11", "-Wall", "-Wextra", "-Werror", f"-I{TOP / 'library'}"]
 WRAPPED = ["-Wl,--wrap=malloc", "-Wl,--wrap=realloc"]
 SANITIZED = [*WRAPPED, "-fsanitize=address,undefined", "-fno-sanitize-recover=all"]
-needs_library = unittest.skipUnless(SHARED.is_file() and ARCHIVE.is_file(), "there is no libbench here")
 
 
 @needs_library
@@ -70,13 +69,26 @@ class Programs(InFolder):
         subprocess.run([made], stdout=subprocess.DEVNULL, check=True)
 
     @needs_compiler
-    def test_want_of_memory(self):
+    @needs_arrays
+    def test_calls_for_arrays(self):
+        made = self.compiled("tools/trials/library_arrays.c", *SANITIZED, skips="there is no AddressSanitizer")
+        subprocess.run([made], stdout=subprocess.DEVNULL, check=True)
+
+    def refuses_each_request(self, made):
         """Each request for memory is refused in turn. One call reports it, and all other calls return what they return without it."""
-        made = self.compiled("tools/trials/library_calls.c", *SANITIZED, skips="there is no AddressSanitizer")
         for number in itertools.count(1):
             if subprocess.run([made, str(number)], stdout=subprocess.PIPE, check=True, text=True).stdout == "none refused\n":
-                break
-        self.assertGreater(number, 20)
+                return number
+
+    @needs_compiler
+    def test_want_of_memory(self):
+        made = self.compiled("tools/trials/library_calls.c", *SANITIZED, skips="there is no AddressSanitizer")
+        self.assertGreater(self.refuses_each_request(made), 20)
+
+    @needs_compiler
+    @needs_arrays
+    def test_want_of_memory_for_arrays(self):
+        self.assertGreater(self.refuses_each_request(self.compiled("tools/trials/library_arrays.c", *WRAPPED)), 200)
 
     @needs_compiler
     @unittest.skipUnless(shutil.which("valgrind"), "there is no Valgrind")
@@ -103,7 +115,7 @@ class Installed(InFolder):
         words = {**os.environ, "PKG_CONFIG_PATH": str(self.folder / "lib/pkgconfig")}
         flags = subprocess.run(["pkg-config", "--cflags", "--libs", "bench"], env=words, stdout=subprocess.PIPE, check=True, text=True).stdout.split()
         made = self.folder / "script"
-        subprocess.run(["cc", "-Wl,-rpath,$ORIGIN/lib", TOP / "examples/c/script.c", *flags, "-o", made], check=True)
+        subprocess.run(["cc", TOP / "examples/c/script.c", *flags, "-o", made], check=True)
         ran = subprocess.run([made], input=(TOP / "examples/mirrored.bench").read_bytes(), stdout=subprocess.PIPE, check=True)
         self.assertEqual(ran.stdout, (TOP / "examples/mirrored.out").read_bytes())
 
@@ -113,6 +125,8 @@ class Names(unittest.TestCase):
     @unittest.skipUnless(shutil.which("nm"), "there is no nm")
     def test_only_the_calls_are_visible(self):
         calls = sorted(f"bench_{name}" for name in library.CALLS)
+        if has("bench_put_array"):
+            calls = sorted(re.findall(r"^int (bench_\w+)\(", (TOP / "library/bench.h").read_text(), re.M))
         for words in (["nm", "-D", "--defined-only", SHARED], ["nm", "-g", "--defined-only", ARCHIVE]):
             listed = subprocess.run(words, stdout=subprocess.PIPE, check=True, text=True).stdout
             self.assertEqual(sorted(line.split()[2] for line in listed.splitlines() if len(line.split()) == 3), calls)
