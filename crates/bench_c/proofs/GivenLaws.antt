@@ -101,3 +101,7 @@ binds-made s new name name' contents o (Ok done) text is room good same (_, (num
 binds-made s new name name' contents o (Err e) text is room good same (kept, inl full) =
     let no : true ≡ false = sym room ∙ full.0 in cc
 binds-made s new name name' contents o (Err e) text is room good same (kept, inr lacks) = (kept, inl lacks.1)
+
+pub given-name : (x there : Result (List ℕ) Refusal) → Answers (λ (n : List ℕ). n) x there → Gives (λ (n : List ℕ). n) x there
+given-name (Ok name) there is = is
+given-name (Err e) there is = inr is
