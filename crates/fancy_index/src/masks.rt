@@ -2,7 +2,7 @@
 ghost use Rattle.std.specs.Prelude.{All, IfOk, IsTrue, List, OnOk, [], get_or, length, pos, replicate, slice_index, take, ℕ, ◌++◌, ◌+◌, ◌<◌, ◌∷◌, ◌≡◌, ◌≤◌, ◌*ℤ◌, ◌/◌, ◌%◌, ◌^◌};
 ghost use Rattle.fancy_index.specs.Clauses.{LieWithin, count, max_bytes, max_items, offsets, run_offsets, truth, Mask, AreAll, AreNoted, IsBlock, LieInBytes, bits, bools_in, ranks_from, kind_in, numbers_in, true_ranks, IsAtRun, led};
 
-use arrays::{Items, copy, goes_by_columns};
+use arrays::{Items, copy};
 use elem_descr::MemoryOrder;
 use raw_block::array_at;
 use shape_strides::{Layout, Run, Runs};
@@ -228,13 +228,13 @@ fn ranks_in(alloc: Global, mask: Items<'_>) -> Result<Vec<u32>, AllocError>
     Ok(ranks)
 }
 
-/// The ranks at which a mask is true. A mask that is stored by columns is copied first if there is
-/// memory for the copy, which is made block by block.
+/// The ranks at which a mask is true. A mask that is not a single run is copied first if there is
+/// memory for the copy: its ranks are found faster in adjacent bools.
 pub(crate) fn true_ranks(alloc: Global, mask: Items<'_>) -> Result<Vec<u32>, AllocError>
     requires kind { kind_in mask ≡ Mask }
     ensures { IfOk result (λ v. v.items ≡ true_ranks 0 (numbers_in mask.entry)) }
 {
-    if !goes_by_columns(mask.layout) {
+    if mask.layout.as_run().is_some() {
         return ranks_in(alloc, mask);
     }
     match copy(alloc, mask.block, mask.layout, mask.descr, MemoryOrder::C) {
