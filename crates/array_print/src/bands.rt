@@ -37,8 +37,8 @@ impl From<WriteFault> for PrintFault {
     }
 }
 
-/// An array whose text is sent in bands. Blocks along an axis before `small` may be longer than a
-/// band. A block that the axes from `small` on lead to has at most `room` bytes.
+/// An array whose text is sent in bands. The text of a block at an axis below `small` may exceed a
+/// band; at `small` or above it takes at most `room` bytes.
 #[derive(Clone, Copy)]
 struct Bands<'a> {
     items: Items<'a>,
@@ -64,7 +64,8 @@ fn axis_room(room: usize, layout: &Layout, axis: usize) -> usize
         .saturating_add(2)
 }
 
-/// The most bytes of an item whose text is made again in each band if stride 0 repeats it.
+/// Items up to this size are formatted once per band when stride 0 repeats them; larger ones are
+/// formatted once and copied.
 const SHORT_ITEM: usize = 64;
 
 /// The first axis with blocks that are made whole, since each fits into a band, and the most bytes

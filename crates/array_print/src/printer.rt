@@ -105,9 +105,10 @@ fn push_item(out: &mut Vec<u8>, items: &Items<'_>, offset: usize) -> Result<(), 
     Ok(())
 }
 
-/// Appends the text of the items that the axes from `axis` on lead to, starting at an offset. One
-/// bracket is open before it for each axis before `axis`. Blocks along an axis of stride 0 are all
-/// the same, so the text of one is made and copied. Axes of length 1 are passed over at once.
+/// Appends the text of the items that the axes from `axis` on lead to, starting at an offset. The
+/// caller has written one opening bracket for each axis before `axis`. Blocks along an axis of
+/// stride 0 are all the same, so the text of one is made and copied. Axes of length 1 are passed
+/// over at once.
 pub fn push_block(
     out: &mut Vec<u8>,
     items: &Items<'_>,

@@ -58,7 +58,7 @@ fn widened(width: usize, scalar: &Scalar, block: &[u8], place: usize) -> usize
     }
 }
 
-/// Widens the widths for one more item.
+/// Accounts for one more item in the column widths.
 fn widen(widths: &mut [usize], descr: &Descr, block: &[u8], offset: usize)
     requires leaves { length widths.old ≡ length (leaves_of descr.now) }
     requires inside { offset + item_size descr.now ≤ length block.now }

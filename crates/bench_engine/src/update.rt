@@ -95,7 +95,7 @@ pub struct Writing {
     pub source: Source,
 }
 
-/// The places of a view, in memory order.
+/// The view with its axes in memory order.
 fn near(alloc: Global, view: Layout) -> Layout
     ensures { IsPermutation (offsets view) (offsets result) }
 {

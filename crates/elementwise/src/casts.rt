@@ -15,7 +15,7 @@ use raw_block::{BlockBuilder, RawBlock};
 use shape_strides::{MAX_BYTES, Run};
 use std::alloc::{AllocError, Global};
 
-/// How many bytes stay in the cache while a band is cast.
+/// The size of a band, so that it stays in the first-level cache.
 const NEAR: usize = 8192;
 
 /// The fewest items of a band.

@@ -23,7 +23,7 @@ pub(crate) fn says(comparison: Comparison, below: bool, above: bool) -> bool
     }
 }
 
-/// `HOLDS` if `BELOW` and `below` are both true, or `ABOVE` and `above`; otherwise the other bool.
+/// `HOLDS` if `BELOW & below` or `ABOVE & above`, and `!HOLDS` otherwise.
 #[inline(always)]
 pub(crate) fn is_said<const BELOW: bool, const ABOVE: bool, const HOLDS: bool>(
     below: bool,

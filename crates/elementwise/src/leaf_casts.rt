@@ -1,4 +1,4 @@
-//! Casts of leaves at equal steps, each to its place in a row of its own.
+//! Casts one field of many records, each value into its own record.
 ghost use Rattle.std.specs.Prelude.{◌≡◌, ◌+◌, ◌*◌, ◌≤◌, ℕ, List, length, take};
 ghost use Rattle.elementwise.specs.Words.{IsNumber, size, put, padded, without_nuls, item_in};
 ghost use Rattle.elementwise.specs.inside.LeafCasts.{leaf_cast};

@@ -35,7 +35,7 @@ pub(crate) struct Layouts {
     pub(crate) second: Layout,
 }
 
-/// A slice of `u8` holds bytes.
+/// Tells the prover that the elements of a `u8` slice are below 256. Does nothing.
 pub(crate) fn note_slice(bytes: &[u8])
     ensures { (k : ℕ) → slice_index_or bytes.now k 0 < 256 }
 {

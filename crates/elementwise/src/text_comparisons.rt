@@ -111,7 +111,7 @@ impl<const BELOW: bool, const ABOVE: bool, const HOLDS: bool, D: Deciding> Pass
     }
 }
 
-/// Appends the result of a comparison for each pair of byte strings, which is decided so.
+/// Appends the result of a comparison for each pair of byte strings, as `D` decides it.
 fn push_decided<D: Deciding>(
     comparison: Comparison,
     block: BlockBuilder,

@@ -27,7 +27,7 @@ fn axes_of(item: IndexItem<Items<'_>>) -> usize
     }
 }
 
-/// How many of `axes` axes the items leave to `...`, unless they take too many.
+/// The number of axes left for `...`, or `None` if the items index more axes than there are.
 pub(crate) fn axes_beside(items: &[IndexItem<Items<'_>>], axes: usize) -> Option<usize>
     ensures some { IfSome result (λ left. left + axes_taken items.now ≡ axes) }
     ensures none { result ≡ None → axes < axes_taken items.now }

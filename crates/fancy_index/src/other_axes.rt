@@ -1,4 +1,4 @@
-//! The axes other than those of the points, with all points at 0.
+//! The axes that no index array indexes.
 ghost use Rattle.std.specs.Prelude.{IfErr, IfOk, OnOk, length, map, ◌++◌, ◌<◌, ◌≡◌, ◌≤◌};
 ghost use Rattle.fancy_index.specs.Clauses.{other_axes, ArePicks, OutOfMemory, max_axes, IsRest, rest_picks, shown_part, AtAxis};
 

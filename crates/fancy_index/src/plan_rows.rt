@@ -52,7 +52,7 @@ pub(crate) fn moved(base: usize, start: usize, offset: usize) -> usize
     start + offset - base
 }
 
-/// With fewer shifts than this, an axis in their place gains nothing.
+/// Below this count it does not pay to replace evenly spaced shifts by an axis.
 const MANY: usize = 128;
 
 /// Whether each shift is the one before it plus a step.

@@ -22,7 +22,7 @@ pub(crate) enum Ranks<'a> {
     Unread(Named<'a>),
 }
 
-/// Points on the same axes, with a shape of their own: for each point, its rank along the axes.
+/// The positions that one index array selects: its shape, and a flat index for each.
 #[derive(Drop)]
 pub(crate) struct PointList<'a> {
     pub lengths: SmallVec<usize, 4>,

@@ -1,5 +1,4 @@
-//! The offset of the first item with each point: how far each array moves it from the item with all
-//! points at 0.
+//! For each position of the broadcast index arrays, the offset of the first selected item.
 ghost use Rattle.std.specs.Prelude.{All, IfOk, OnOk, get_or, length, map, pos, true, ℕ, ◌+◌, ◌<◌, ◌≡◌, ◌≤◌};
 ghost use Rattle.fancy_index.specs.Clauses.{IsShape, address, can_stretch, count, indexes, max_bytes, offsets, IsWithin, IsMoved, AreParts, IsReady, LeadInto, all_named, first_offset, is_named, AllCanGrow, AreSoMany, CanGrowAlong, IsOrigin, BeginAt, BeginsAt, CanAdd, CanGrow, HaveAdded, HaveAllGrown, HaveGrown, HaveGrownFrom, number_along, number_through, point_number, start_of, starts, stretched_ranks, strides_along};
 
@@ -130,7 +129,7 @@ fn grow(shifts: &mut [u32], start: u32, offsets: &[u32])
     }
 }
 
-/// Adds it to as many shifts as a run of places has, starting with one of them.
+/// Adds each point's displacement to `places.count` consecutive shifts, from index `at` on.
 #[inline(always)]
 fn grow_each(shifts: &mut [u32], at: usize, start: u32, offsets: &[u32], places: Run)
     requires { CanGrowAlong at start offsets.now places shifts.old }
@@ -156,8 +155,7 @@ fn grow_equally(shifts: &mut [u32], at: usize, start: u32, offset: u32, count: u
     }
 }
 
-/// Adds it to as many shifts as a run of places has, with a loop of its own for adjacent places and
-/// for a single place.
+/// The same, with separate loops for adjacent places and for a single place.
 fn grow_run(shifts: &mut [u32], at: usize, start: u32, offsets: &[u32], places: Run)
     requires { CanGrowAlong at start offsets.now places shifts.old }
     ensures { let to = at + places.count in
@@ -172,7 +170,7 @@ fn grow_run(shifts: &mut [u32], at: usize, start: u32, offsets: &[u32], places: 
     }
 }
 
-/// Adds it to all shifts; their places are the offsets of a layout.
+/// Adds each point's displacement to all shifts. The places are the offsets of a layout.
 fn grow_along(shifts: &mut [u32], start: u32, numbers: &[u32], places: &Layout)
     requires start { start ≤ max_bytes }
     requires many { length (offsets places.now) ≡ length shifts.old }

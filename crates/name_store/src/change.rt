@@ -12,9 +12,9 @@ pub struct OldItems {
     pub width: usize,
 }
 
-/// A change of the bench, with all that is needed to undo it. A binding that it has keeps its
-/// buffer alive. A write keeps no buffer alive: a name uses the buffer at that time, and the later
-/// change that ends this use keeps it alive until after the write is forgotten.
+/// A change of the bench, with all that is needed to undo it. A stored entry counts
+/// as a user of its buffer. A stored write does not: as long as the write is in the history, the
+/// buffer has another user, either a name or the entry in a later change.
 #[derive(Drop)]
 pub enum Change {
     /// A name was bound: what it was bound to before, if anything.

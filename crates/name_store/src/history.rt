@@ -87,8 +87,8 @@ impl History {
     }
 }
 
-/// Makes room among the names to undo every change of the history and one more, and to bind `more`
-/// new names.
+/// Reserves room for the names that may come back if the whole history and one more change are
+/// undone, and for `more` new ones.
 pub(crate) fn make_room(
     names: &mut IndexMap<Name, Entry>,
     history: &History,

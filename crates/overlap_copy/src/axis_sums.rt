@@ -94,8 +94,8 @@ pub(crate) enum Answer {
     Undecided,
 }
 
-/// Steps along an axis that lead as far as some steps along the next one. They can be taken back if
-/// less than `far` is left for the other axes, since the next one then has enough items left.
+/// The fewest steps along this axis that equal whole steps along the next one. If less than `far`
+/// remains, the search can trade them for steps along the next axis, so it may stop here.
 #[derive(Clone, Copy, Drop)]
 struct Turn {
     steps: usize,

@@ -101,7 +101,7 @@ fn push_total<T: Number>(block: &mut BlockBuilder, total: T)
     requires { T.WIDTH ≤ block.old.1 }
     ensures { IsPushed (T.scalar Little) T.WIDTH (T.value total) block.old block.new }
 {
-    // Reading the bytes back gives the number: this is what the contract says of them.
+    // For the prover alone: `write` states that the bytes decode to the number.
     let mut item = [0; 8];
     total.write::<LowFirst>(&mut item[..T::WIDTH]);
     total.push::<LowFirst>(block);

@@ -1,4 +1,4 @@
-//! The run that the last axes of a layout make, and axes that a single step leads through.
+//! Merges trailing axes that one stride can walk.
 ghost use Rattle.std.specs.Prelude.{IfOk, IfSome, MatchOption, OnOk, [], length, pos, reverse, ℕ, ℤ, ◌*◌, ◌<◌, ◌∷◌, ◌≡◌, ◌≤◌};
 ghost use Rattle.shape_strides.specs.Clauses.{RunWithin, count, all_joined, join_outside, leads_over, strided_axes, Fits, offsets, max_items, GoesBy, run_offsets, IsLastRun, if_long, lengths_of};
 
@@ -114,7 +114,7 @@ pub struct StridedAxis {
     pub stride: isize,
 }
 
-/// Whether a step along the outer axis leads to where the steps along the inner one end.
+/// Whether the outer stride is the inner stride times the inner length.
 pub(crate) fn leads_over(outer: StridedAxis, inner: StridedAxis) -> bool
     requires { inner.len ≤ max_items }
     ensures { result ≡ leads_over outer inner }

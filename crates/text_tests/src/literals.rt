@@ -1,4 +1,4 @@
-//! Items as NumPy's `numpy.array` makes them of literals, where it takes the same.
+//! Items as NumPy's `numpy.array` makes them from literals that NumPy accepts too.
 use crate::check::check;
 use crate::made::command_of;
 use elem_descr::Refusal::{LiteralOutOfRange, NoSuchCast};

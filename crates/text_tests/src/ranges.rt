@@ -9,7 +9,7 @@ use script_lang::{Command, NewItems, Value};
 use std::alloc::Global;
 use std::process::Abort;
 
-/// Behind `a = arange`, and what is made.
+/// The arguments of `arange`, and the expected result.
 const LINES: &[(&str, Made)] = &[
     ("|i1 0 201 100", Err(LiteralOutOfRange)),
     ("|i1 0 200 100", Ok(&[0, 100])),
@@ -74,7 +74,7 @@ fn ranges_as_bytes(rt: HostRuntime) {
     }
 }
 
-/// Differences that pass what 128 bits with a sign hold.
+/// Ranges whose length overflows an `i128`.
 #[test]
 fn the_longest_step(rt: HostRuntime) {
     let (least, greatest) = (i128::MIN, i128::MAX);

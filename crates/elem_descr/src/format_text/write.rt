@@ -106,8 +106,7 @@ fn push_descr(text: &mut Vec<u8>, descr: &Descr) -> Result<(), AllocError>
     }
 }
 
-/// Does nothing. It says that what is written for a descriptor is read as that descriptor, whether
-/// or not there is memory to write it.
+/// A proof only: the written text of a descriptor reads back as that descriptor.
 #[tactic(auto, using(crate::proofs::RoundTrip::reads_record_back))]
 fn will_read(descr: &Descr)
     ensures { format (written_format descr.now) ≡ Ok descr.now }

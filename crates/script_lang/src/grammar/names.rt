@@ -51,7 +51,7 @@ fn lookup(mut table: &[(&[u8], Verb)], word: &[u8]) -> Option<Verb>
     None
 }
 
-/// The verb that the word is.
+/// The verb with this spelling, if there is one.
 pub fn verb(word: &[u8]) -> Option<Verb>
     ensures { result ≡ verb_of word.now }
 {
