@@ -1,5 +1,5 @@
 //! Records, built field by field.
-ghost use Rattle.std.specs.Prelude.{◌≡◌, ◌≤◌, ◌<◌, ◌+◌, length, IsTrue, IfOk, false};
+ghost use Rattle.std.specs.Prelude.{◌≡◌, ◌≤◌, ◌<◌, ◌+◌, length, IsTrue, IfOk, OnErr, false};
 ghost use Rattle.elem_descr.specs.Refusals.{Answers, Gives};
 ghost use Rattle.elem_descr.specs.Names.{is_legal_name};
 ghost use Rattle.elem_descr.specs.Items.{leaves_of};
@@ -104,7 +104,7 @@ impl RecordBuilder {
     }
 
     /// Adds a field at the next multiple of its alignment. More than 2,048 leaves of the whole type, and
-    /// an item of more than 65,536 bytes, are `TooLarge`.
+    /// an item of more than 65,536 bytes, are `TooLarge`. A refusal changes nothing.
     #[tactic(auto, unfolding(crate::specs::RecordBuilding::added))]
     pub fn add(&mut self, name: FieldName, alignment: usize, descr: Descr) -> Result<(), Refusal>
         requires legal { IsTrue (is_legal_name name) }
@@ -113,6 +113,7 @@ impl RecordBuilder {
         requires aligned { (1 ≤ alignment) × (alignment ≤ 8) }
         requires shallow { IsShallow self.old.levels descr }
         ensures gives { Gives (λ _. self.new) result (added self.old name alignment descr) }
+        ensures kept { OnErr result (self.new ≡ self.old) }
         ensures levels { self.new.levels ≡ self.old.levels }
     {
         let leaves = self.leaves + descr.leaf_count();
@@ -128,10 +129,11 @@ impl RecordBuilder {
         Ok(())
     }
 
-    /// Adds padding. An item of more than 65,536 bytes is `TooLarge`.
+    /// Adds padding. An item of more than 65,536 bytes is `TooLarge`, and changes nothing.
     #[tactic(auto, unfolding(crate::specs::RecordBuilding::widened))]
     pub fn pad(&mut self, count: usize) -> Result<(), Refusal>
         ensures answers { Answers (λ _. self.new) result (widened self.old count) }
+        ensures kept { OnErr result (self.new ≡ self.old) }
         ensures levels { self.new.levels ≡ self.old.levels }
     {
         if count > MAX_ITEM_SIZE - self.size {
