@@ -1,6 +1,7 @@
 -- The members of a record, turn by turn.
-use Rattle.std.proofs.Common.{◌≡◌, ◌≤◌, ◌<◌, ◌+◌, ◌-◌, ℕ, suc, List, [], ◌∷◌, length, get_or, take, drop, Option, Some, None, Result, Ok, Err, refl, sym, ap, ◌∙◌, arith}
-use Rattle.elem_descr.proofs.Words.{take_all, is_ascii_digit, prefix_len, Refusal, Held, Mark, DescriptorLeftOut, ◌>>=◌, Partial, empty, Member, closed_body, lettered_before, after_count, member_at, held_member, held_at, Reader, marked, closing, next_field, turn, members, record_within}
+use Rattle.std.proofs.Common.{◌≡◌, ◌≤◌, ◌<◌, ◌+◌, ◌-◌, ℕ, suc, List, [], ◌∷◌, length, get_or, take, drop, Option, Some, None, Result, Ok, Err, refl, sym, ap, ◌∙◌, arith, length-drop}
+use Rattle.elem_descr.specs.declared.format_text.member.Member.TheVariants.{Opened as HeldOpened}
+use Rattle.elem_descr.proofs.Words.{take_all, Body, RecordDescr, is_ascii_digit, prefix_len, Refusal, Held, Mark, DescriptorLeftOut, ◌>>=◌, Partial, empty, Member, closed_body, lettered_before, after_count, member_at, held_member, held_at, aligned_to, named, added, checked_name, body_in, Reader, marked, closing, next_field, turn, members, record_within}
 
 -- If no levels are allowed, a record is refused.
 pub no_levels : (levels : ℕ) (mark : Mark) (leaves : ℕ) (text : List ℕ) → levels ≡ 0 → record_within levels mark leaves text ≡ Err DescriptorLeftOut
@@ -51,3 +52,11 @@ member_held mark text digits tail n d read count front back some is =
         ap (λ (rest : List ℕ). held_at (lettered_before mark digits b rest >>= λ member. Ok (member, rest))) (sym (take_all (length (b ∷ l) - 1) l (omega arith)))
         ∙ by_member (lettered_before mark digits b (take (length (b ∷ l) - 1) l)) (take (length (b ∷ l) - 1) l)
         ∙ ap (λ (r : Result Held Refusal). r >>= λ member. Ok (member, take (length (b ∷ l) - 1) l)) (sym is)
+
+-- a member that is a record, whose name is read and not taken
+pub next_record : (mark : Mark) (p : Partial) (text rest : List ℕ) (body : Body) (after name more : List ℕ) → held_at (member_at mark text) ≡ Ok (HeldOpened, rest) → record_within p.levels mark p.leaves (take (length rest - 1) (drop 1 rest)) ≡ Ok (body, after) →
+    named (length p.fields) after ≡ Ok (name, more) → checked_name p name ≡ Ok tt → next_field (record_within p.levels) mark p text ≡ (added p name (aligned_to mark body.alignment) (RecordDescr body.whole) >>= λ q. Ok (q, body.mark, more))
+unfolding next_field body_in
+next_record mark p text rest body after name more opened within named_so free =
+    let all : take (length rest - 1) (drop 1 rest) ≡ drop 1 rest = take_all (length rest - 1) (drop 1 rest) (omega (arith, length-drop 1 rest)) in
+    rw (opened, rw all at within, named_so, free) refl

@@ -1,7 +1,7 @@
 use Rattle.std.proofs.Common.{◌≡◌, ◌<◌, ◌-◌, ◌∙◌, ⊎_elim, inl, inr, length, ap, arith}
 use Rattle.elem_descr.proofs.Words.{err_from_is_err_and, Partial, record_within}
 use Rattle.elem_descr.proofs.PieceMembers.{after_ok, after_err}
-use Rattle.elem_descr.proofs.Turns.{no_levels, members_begin, members_closed, members_field}
+use Rattle.elem_descr.proofs.Turns.{no_levels, members_begin, members_closed, members_field, next_record}
 use Rattle.elem_descr.proofs.format_text.record.+record.Goals as goal
 
 pub record_within-returns-then-levels-eq0-clause-gives : goal.record_within-returns-then-levels-eq0-clause-gives
@@ -42,3 +42,20 @@ record_within-loop-turn-preserved t c =
       read = c.loop-turn.invariant.read ∙ at ∙ after_ok _ _ _ c.in_ok-later.ensures.gives;
       levels = omega (arith, c.loop-turn.invariant.levels, c.field_at.ensures.levels);
     }
+
+pub field_at-returns-in_err-add-in-Ok-Opened-default-clause-gives : goal.field_at-returns-in_err-add-in-Ok-Opened-default-clause-gives
+field_at-returns-in_err-add-in-Ok-Opened-default-clause-gives t c =
+    let p = err_from_is_err_and c.from_residual-in_err-add-in-Ok-Opened-default.result c.from_residual-in_err-add-in-Ok-Opened-default.ensures.1 in
+    let at = next_record c.args.mark c.args.builder.now c.args.text.now _ _ _ _ _ (rw c.in-Ok-Opened-default.field-0-0-is at c.in-Ok-Opened-default.ensures.answers)
+    (rw (c.levels-levels.ensures.value, c.leaves-leaves.ensures.value) at c.in_ok-body-in-Ok-Opened-default.ensures.gives)
+    (rw c.len-in-Ok-Opened-default.ensures.value at c.in_ok-name-in-Ok-Opened-default.ensures.gives)
+    (rw c.as_slice-in-Ok-Opened-default.ensures at c.in_ok-check_name-in-Ok-Opened-default.ensures.answers) in
+    rw (p.1, p.2) (⊎_elim inl (λ e. inr (at ∙ after_err _ _ _ e)) (rw c.aligned-alignment-in-Ok-Opened-default.ensures.value at c.in_err-add-in-Ok-Opened-default.ensures.gives))
+
+pub field_at-returns-in_ok-add-in-Ok-Opened-default-clause-gives : goal.field_at-returns-in_ok-add-in-Ok-Opened-default-clause-gives
+field_at-returns-in_ok-add-in-Ok-Opened-default-clause-gives t c =
+    let at = next_record c.args.mark c.args.builder.now c.args.text.now _ _ _ _ _ (rw c.in-Ok-Opened-default.field-0-0-is at c.in-Ok-Opened-default.ensures.answers)
+    (rw (c.levels-levels.ensures.value, c.leaves-leaves.ensures.value) at c.in_ok-body-in-Ok-Opened-default.ensures.gives)
+    (rw c.len-in-Ok-Opened-default.ensures.value at c.in_ok-name-in-Ok-Opened-default.ensures.gives)
+    (rw c.as_slice-in-Ok-Opened-default.ensures at c.in_ok-check_name-in-Ok-Opened-default.ensures.answers) in
+    at ∙ after_ok _ _ _ (rw c.aligned-alignment-in-Ok-Opened-default.ensures.value at c.in_ok-add-in-Ok-Opened-default.ensures.gives)
