@@ -5,8 +5,8 @@ ghost use Rattle.arrays.specs.Clauses.{assigned, items_at, offsets_in, EachWithi
 use crate::owned::Owned;
 use crate::packed::gather;
 use elem_descr::{Descr, MemoryOrder, Refusal};
-use raw_block::{RawBlock, Steps, StridedItems};
-use shape_strides::{Layout, MAX_BYTES, Run};
+use raw_block::RawBlock;
+use shape_strides::{Layout, MAX_BYTES};
 use std::alloc::{AllocError, Global};
 
 /// The items, of `width` bytes, of a layout, adjacent in this order in a block of their own.
@@ -66,35 +66,4 @@ pub fn copy(
     let block = gather_in(alloc, order, block, layout, item)?;
     let copy = Owned::over(alloc, descr, &layout.shape, order, block)?;
     Ok(copy)
-}
-
-/// The items of a run, each of `width` bytes, as the calls of a block take them.
-pub fn strided(run: Run, width: usize) -> StridedItems
-    ensures { result ≡ record {
-      steps = record { at = run.offset; step = run.step };
-      width = width;
-      count = run.count;
-    } }
-{
-    StridedItems {
-        steps: Steps {
-            at: run.offset,
-            step: run.step,
-        },
-        width,
-        count: run.count,
-    }
-}
-
-/// Copies the items, of `width` bytes, of a run of `other` to a run of the block with as many
-/// items.
-pub fn copy_run(block: &mut RawBlock, to: Run, other: &RawBlock, from: Run, width: usize)
-    requires count { to.count ≡ from.count }
-    requires to { EachWithin (length block.old) to.offset to.step width to.count }
-    requires from { EachWithin (length other.now) from.offset from.step width from.count }
-    ensures written { block.new
-        ≡ assigned (run_offsets to) (run_offsets from) width other.now block.old }
-    ensures len { length block.new ≡ length block.old }
-{
-    block.copy_strided(strided(to, width).steps, other, strided(from, width));
 }

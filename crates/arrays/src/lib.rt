@@ -6,7 +6,7 @@ mod items;
 mod owned;
 mod packed;
 
-pub use copies::{copy, copy_run, strided};
+pub use copies::copy;
 pub use items::Items;
 pub use owned::Owned;
-pub use packed::{gather, goes_by_columns, packed_run, push_run, scatter};
+pub use packed::{copy_run, gather, goes_by_columns, packed_run, push_run, scatter, strided};

@@ -2,10 +2,40 @@
 ghost use Rattle.std.specs.Prelude.{All, IfOk, length, pos, ◌*◌, ◌++◌, ◌+◌, ◌<◌, ◌^◌, ◌≡◌, ◌≤◌};
 ghost use Rattle.arrays.specs.Clauses.{assigned, items_at, joined_at, EachWithin, item_at, multiples, offsets, run_offsets, grid_of};
 
-use crate::copies::{copy_run, strided};
-use raw_block::{BlockBuilder, Grid, RawBlock, part};
+use raw_block::{BlockBuilder, Grid, RawBlock, Steps, StridedItems, part};
 use shape_strides::{Layout, Rows, Run, Runs, StridedAxis};
 use std::alloc::{AllocError, Global};
+
+/// The items of a run, each of `width` bytes, as the calls of a block take them.
+pub fn strided(run: Run, width: usize) -> StridedItems
+    ensures { result ≡ record {
+      steps = record { at = run.offset; step = run.step };
+      width = width;
+      count = run.count;
+    } }
+{
+    StridedItems {
+        steps: Steps {
+            at: run.offset,
+            step: run.step,
+        },
+        width,
+        count: run.count,
+    }
+}
+
+/// Copies the items, of `width` bytes, of a run of `other` to a run of the block with as many
+/// items.
+pub fn copy_run(block: &mut RawBlock, to: Run, other: &RawBlock, from: Run, width: usize)
+    requires count { to.count ≡ from.count }
+    requires to { EachWithin (length block.old) to.offset to.step width to.count }
+    requires from { EachWithin (length other.now) from.offset from.step width from.count }
+    ensures written { block.new
+        ≡ assigned (run_offsets to) (run_offsets from) width other.now block.old }
+    ensures len { length block.new ≡ length block.old }
+{
+    block.copy_strided(strided(to, width).steps, other, strided(from, width));
+}
 
 /// The run of `count` adjacent items of `width` bytes that starts at `at` in a block of `len`
 /// bytes.

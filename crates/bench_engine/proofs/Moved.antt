@@ -1,7 +1,7 @@
 -- A view with its places in another order: writing to it has the same effect.
 use Rattle.std.proofs.Common.{◌≡◌, ◌+◌, ◌*◌, ◌≤◌, ◌⊎◌, ℕ, true, List, length, map, get_or, All, IfOk, IfSome, Option, None, Some, Result, Ok, Err, refl, sym, ap, subst, ◌∙◌, arith, inl, inr}
 use Rattle.bench_engine.proofs.Words.{zip, Contains, IsPermutation, insert, is_ok, cases_eq, false≢true, splat_is_map, length-map, get_or-map, IsPermutation-map, All-permutation, length_permutation, Refusal, OutOfMemory, Descr, item_size, LeafValue, Layout, LayoutPair, count, item_pairs, length-offsets, offsets_within, offsets, IsNested, max_bytes, fits-offsets, IsShape, broadcast_index, can_stretch, stretched, can-itself, stretched-ok, stretched-self, GivesView, IsViewOf, view_through, item_from, same_answer, All-seconds, firsts-reordered, pair_even, nested-reordered, Items, Owned, Literal, Operation, State, buffer_of, descr_of, keeping, placed_item, read, span_of, written, part_at, start_at, LeadsTo, MayWrite, Supplies, target_offsets, Shows, ArrayRef, Source, Block, Target, ViewOf, Array, OperandValues, changed_with, literal_values, operand_values, updated_items, Writing, IsTarget, Stands, HoldsItems, Leaves, GoTogether, Meets}
-use Rattle.name_store.specs.declared.write.Target.TheVariants.{View}
+use Rattle.name_store.specs.declared.target.Target.TheVariants.{View}
 use Rattle.bench_engine.proofs.Assigns.{all-viewed}
 use Rattle.bench_engine.proofs.LiteralLaws.{IsOneItem, literal-one}
 use Rattle.bench_engine.proofs.OperandLaws.{all-stand}

@@ -2,7 +2,7 @@
 use Rattle.std.proofs.Common.{◌≡◌, true, false, ℕ, List, refl, sym, ap, ◌∙◌, subst, Bor, Ok}
 use Rattle.bench_engine.proofs.Words.{list_all, IndexItem, C, is_basic, item_size, Layout, Owned, offsets_in, State, descr_of, read, Shows, ArrayRef, View, Array, new_contents, taken, a_view, a_copy, viewed, part_seen, Viewed, Holds, IsAimed, held, IsOf, IsSeen, Meets}
 use Rattle.name_store.specs.declared.bound.Bound.TheVariants as bound
-use Rattle.name_store.specs.declared.write.Target.TheVariants as target
+use Rattle.name_store.specs.declared.target.Target.TheVariants as target
 use Rattle.bench_engine.proofs.Copies.{made-held}
 use Rattle.bench_engine.proofs.Views.{viewed-part}
 

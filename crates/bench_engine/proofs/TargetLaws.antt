@@ -1,7 +1,7 @@
 -- The items that an index list selects from an array, to be read or to be written.
 use Rattle.std.proofs.Common.{Some, get_or, slice_index, ◌≡◌, ◌⊎◌, ◌≤◌, if◌then◌else◌, nat_le, ◌+◌, ◌*◌, ℕ, true, false, List, length, map, refl, sym, ap, ◌∙◌, subst, All, Ok, Err}
 use Rattle.bench_engine.proofs.Words.{list_all, All-map, Refusal, OutOfMemory, ReadOnly, TooLarge, Descr, item_from, item_size, IndexItem, Layout, is_basic, indexes, rank, length-offsets, offsets, IsNested, count, max_bytes, IsViewOf, GivesView, KeepsNested, basic, Owned, Planned, IsPlanOf, GivesPlan, State, find_array, descr_of, read, Shows, ArrayRef, Target, View, Array, taken, gathered, viewed, target_part, Holds, IsAimed, IsTarget, IsInCOrder, Meets}
-use Rattle.name_store.specs.declared.write.Target.TheVariants as target
+use Rattle.name_store.specs.declared.target.Target.TheVariants as target
 use Rattle.bench_engine.proofs.Assigns.{lies-whole, lies-viewed}
 use Rattle.bench_engine.proofs.GivenLaws.{cast-lacks}
 use Rattle.bench_engine.proofs.IndexLaws.{given-plan, plan-counted, plan-inside, plan-addresses, plan-among}

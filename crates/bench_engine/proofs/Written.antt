@@ -1,7 +1,7 @@
 -- The old items of a target, and the new ones.
 use Rattle.std.proofs.Common.{◌≡◌, ◌≤◌, ◌+◌, ◌*◌, ℕ, List, length, map, get_or, All, refl, sym, ap, ◌∙◌, subst, arith}
 use Rattle.bench_engine.proofs.Words.{Contains, length-map, get_or-map, All-map, All-contains, item_from, item_size, Layout, offsets, offsets_of, Items, Owned, Planned, State, buffer_of, descr_of, read, start_at, Shows, ArrayRef, Array, LiesIn, IsTarget, StandsFor}
-use Rattle.name_store.specs.declared.write.Target.TheVariants as target
+use Rattle.name_store.specs.declared.target.Target.TheVariants as target
 use Rattle.bench_engine.proofs.Sets.{items-at, read-part, part-inside}
 
 -- what holds for all addresses holds for some of them

@@ -19,6 +19,6 @@ pub use Rattle.bench_engine.specs.inside.Parts.{IsShown, Sees, SeesIn, origin_of
 pub use Rattle.bench_engine.specs.inside.Printing.{MayPrint, SendsAnswer}
 pub use Rattle.bench_engine.specs.inside.ReadLines.{ReadsAs, meaning_of_read}
 pub use Rattle.bench_engine.specs.inside.Writings.{GoTogether, IsTargetIn, IsTargetOf, Prepares, Writes, WritesIn}
-pub use Rattle.name_store.specs.declared.write.Target.TheVariants.{View}
+pub use Rattle.name_store.specs.declared.target.Target.TheVariants.{View}
 pub use Rattle.script_lang.specs.declared.command.Argument.TheVariants.{Literal as LiteralArgument}
 pub use Rattle.script_lang.specs.declared.command.Viewing.TheVariants.{Field}

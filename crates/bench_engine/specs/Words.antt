@@ -67,10 +67,10 @@ pub use Rattle.name_store.specs.Views.{IsViewIn, MayBind}
 pub use Rattle.name_store.specs.declared.bound.ArrayRef.{ArrayRef}
 pub use Rattle.name_store.specs.declared.bound.Bound.{Bound}
 pub use Rattle.name_store.specs.declared.bound.Bound.TheVariants.{Fresh}
-pub use Rattle.name_store.specs.declared.write.Source.{Source}
-pub use Rattle.name_store.specs.declared.write.Source.TheVariants.{Block}
-pub use Rattle.name_store.specs.declared.write.Target.{Target}
-pub use Rattle.name_store.specs.declared.write.Target.TheVariants.{Plan}
+pub use Rattle.name_store.specs.declared.target.Source.{Source}
+pub use Rattle.name_store.specs.declared.target.Source.TheVariants.{Block}
+pub use Rattle.name_store.specs.declared.target.Target.{Target}
+pub use Rattle.name_store.specs.declared.target.Target.TheVariants.{Plan}
 pub use Rattle.npy_files.specs.Stores.{FaultHasCause, IsKept, IsRead, IsSameStore, IsWritten, StoreState}
 pub use Rattle.npy_files.specs.declared.store.StoreFault.{StoreFault}
 pub use Rattle.npy_files.specs.declared.store.StoreFault.TheVariants.{Device, Memory, TooLong}

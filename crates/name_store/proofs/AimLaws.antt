@@ -1,7 +1,7 @@
 -- What a valid write to a name's array means for the buffer with its number.
 use Rattle.std.proofs.Common.{◌≡◌, ◌+◌, ◌≤◌, ℕ, List, length, map, refl, sym, ap, subst, ◌∙◌, Option, Some, None, Ok, All, false, arith}
 use Rattle.name_store.proofs.Words.{AllByRecursion, length-set, All-from_recursion, Descr, item_size, decode_item, LeafValue, Layout, offsets, Fits, IsNested, offsets_of, items_at, State, Array, find_array, descr_of, written, AnswersWrite, Holds, start_at, IsAim, Supplies, MayWrite, LeadsTo, target_offsets, named_array, present, Entry, Home, Slot, Source, One, Block, Target, View, Plan, IsHome, AreItems, CanPut, CanWrite, MayPut, Puts, parts_of, with_source, without_slot}
-use Rattle.name_store.specs.declared.write.Source.TheVariants.{Buffer}
+use Rattle.name_store.specs.declared.target.Source.TheVariants.{Buffer}
 use Rattle.name_store.proofs.PartLaws.{part-within}
 use Rattle.name_store.proofs.RewriteLaws.{lender-is, parts-whole}
 use Rattle.name_store.proofs.ShowLaws.{inside-places}

@@ -1,7 +1,7 @@
 -- Items that are written to a slot that was borrowed.
 use Rattle.std.proofs.Common.{replicate, ◌≡◌, ◌+◌, ◌*◌, ◌≤◌, ◌<◌, ℕ, zero, suc, true, false, List, [], ◌∷◌, length, refl, sym, ap, subst, ◌∙◌, cond, Option, Some, nat_eq, get_or, slice_set, All, Result, Ok, Err, IfOk, IfErr, None}
 use Rattle.name_store.proofs.Words.{All-replicate, AllByRecursion, ArePaired, option_map, eqb-true, recursion_from_All, same_Some, item_size, items_at, Layout, multiples, offsets, Fits, offsets_within, Owned, users_of, users_at, target_offsets, slot_at, Slot, Home, Source, One, Block, Target, IsPacked, HasNew, stand, AreSame, AreItems, CanPut, CanWrite, Puts, block_from, parts_of, with_source, without_slot}
-use Rattle.name_store.specs.declared.write.Source.TheVariants.{Buffer}
+use Rattle.name_store.specs.declared.target.Source.TheVariants.{Buffer}
 use Rattle.name_store.proofs.LaidLaws.{offsets-within}
 use Rattle.name_store.proofs.RestoreLaws.{length-with}
 use Rattle.name_store.proofs.SlotLaws.{slot_at-get_or, slot_at-set, slot_at-within}

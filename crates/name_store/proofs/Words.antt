@@ -21,14 +21,14 @@ pub use Rattle.name_store.specs.declared.bound.Bound.TheVariants.{Fresh}
 pub use Rattle.name_store.specs.declared.bound.Entry.{Entry}
 pub use Rattle.name_store.specs.declared.change.Change.{Change}
 pub use Rattle.name_store.specs.declared.change.Change.TheVariants.{Bind, Unbind, Write}
-pub use Rattle.name_store.specs.declared.change.OldItems.{OldItems}
+pub use Rattle.name_store.specs.declared.target.OldItems.{OldItems}
 pub use Rattle.name_store.specs.declared.slot.Slot.{Slot}
-pub use Rattle.name_store.specs.declared.table.Home.{Home}
+pub use Rattle.name_store.specs.declared.target.Home.{Home}
 pub use Rattle.name_store.specs.declared.write.Overwritten.{Overwritten}
-pub use Rattle.name_store.specs.declared.write.Source.{Source}
-pub use Rattle.name_store.specs.declared.write.Source.TheVariants.{Block, One}
-pub use Rattle.name_store.specs.declared.write.Target.{Target}
-pub use Rattle.name_store.specs.declared.write.Target.TheVariants.{Plan, View}
+pub use Rattle.name_store.specs.declared.target.Source.{Source}
+pub use Rattle.name_store.specs.declared.target.Source.TheVariants.{Block, One}
+pub use Rattle.name_store.specs.declared.target.Target.{Target}
+pub use Rattle.name_store.specs.declared.target.Target.TheVariants.{Plan, View}
 pub use Rattle.name_store.specs.inside.Exchanges.{AreAll}
 pub use Rattle.name_store.specs.inside.Held.{Adds, IsLowest, stand}
 pub use Rattle.name_store.specs.inside.Homes.{HasNew, IsHome}

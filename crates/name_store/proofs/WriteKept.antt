@@ -1,7 +1,7 @@
 -- Writing items, and keeping the old ones.
 use Rattle.std.proofs.Common.{◌≡◌, ◌+◌, ◌*◌, ◌≤◌, ℕ, true, false, List, [], ◌∷◌, ◌++◌, length, map, min, refl, sym, ap, subst, ◌∙◌, cond, Some, Result, Ok, Err, nat_eq, All, arith, ◌⊎◌, inl, inr}
 use Rattle.name_store.proofs.Words.{IsPermutation, All-permutation, length_permutation, AllByRecursion, option_map, eqb-true, All-from_recursion, recursion_from_All, drop_of_length-le, buffer, keep_last, Descr, item_size, LeafValue, items_at, with_items, Ring, State, Array, is_in_use, keeping, descr_of, AnswersWrite, CountsWrite, Holds, IsSound, LiesAt, GoBackAt, GoBack, IsUndoable, users_at, users_in, pins, all_pins, with_old, Names, past_names, past_buffers, kept_states, patch_size, MoveInPlace, NeedsNoMemory, target_offsets, LeadsTo, MayWrite, Supplies, IsAim, array_at, named_array, slot_at, present, state_of, bench_value, Change, Write, Entry, OldItems, Slot, Overwritten, Source, One, Block, Target, View, Plan, IsHome, HasNew, CanWrite, NeedsNone, Puts, Writes, parts_of, without_slot, IsLowest, stand, AreKeptAt, AreOld, AreSame}
-use Rattle.name_store.specs.declared.write.Source.TheVariants.{Buffer}
+use Rattle.name_store.specs.declared.target.Source.TheVariants.{Buffer}
 use Rattle.name_store.proofs.BindLaws.{view-present}
 use Rattle.name_store.proofs.AimLaws.{can-here, can-put, put-answers, whole-parts}
 use Rattle.name_store.proofs.HeldLaws.{lowest-same}

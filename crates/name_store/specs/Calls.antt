@@ -4,8 +4,8 @@ use Rattle.name_store.specs.Words.{get, keep_last, Refusal, OutOfMemory, TooMany
 use Rattle.name_store.specs.States.{State, Array, BenchValue, Buffer}
 use Rattle.name_store.specs.Arrays.{has_kept, undone, is_bound, has_room_for, bound_to, bound_view, unbound, descr_of, written, find_array, share_cells}
 use Rattle.name_store.specs.Targets.{target_offsets, LeadsTo, Supplies}
-use Rattle.name_store.specs.declared.write.Source.{Source}
-use Rattle.name_store.specs.declared.write.Target.{Target}
+use Rattle.name_store.specs.declared.target.Source.{Source}
+use Rattle.name_store.specs.declared.target.Target.{Target}
 use Rattle.name_store.specs.declared.bound.Bound.{Bound}
 use Rattle.name_store.specs.declared.bound.Bound.TheVariants.{Fresh, View}
 use Rattle.name_store.specs.Views.{IsViewIn}

@@ -9,9 +9,9 @@ use Rattle.name_store.specs.Views.{IsLaidOut}
 use Rattle.name_store.specs.declared.change.Change.{Change}
 use Rattle.name_store.specs.declared.change.Change.TheVariants.{Bind, Unbind, Write}
 use Rattle.name_store.specs.declared.bound.Entry.{Entry}
-use Rattle.name_store.specs.declared.change.OldItems.{OldItems}
+use Rattle.name_store.specs.declared.target.OldItems.{OldItems}
 use Rattle.name_store.specs.declared.slot.Slot.{Slot}
-use Rattle.name_store.specs.declared.write.Target.{Target}
+use Rattle.name_store.specs.declared.target.Target.{Target}
 
 -- The array of `e` lies in the slot: `e.item` is the size of the slot's items, and the layout of `e` is that of an
 -- array over these items.

@@ -8,7 +8,7 @@ use Rattle.name_store.specs.Targets.{target_offsets}
 use Rattle.name_store.specs.Entries.{array_at}
 use Rattle.name_store.specs.declared.change.Change.{Change}
 use Rattle.name_store.specs.declared.change.Change.TheVariants.{Bind, Unbind, Write}
-use Rattle.name_store.specs.declared.change.OldItems.{OldItems}
+use Rattle.name_store.specs.declared.target.OldItems.{OldItems}
 use Rattle.name_store.specs.declared.slot.Slot.{Slot}
 
 abbrev pub Names : Type 0

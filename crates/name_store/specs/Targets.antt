@@ -4,10 +4,10 @@ use Rattle.name_store.specs.Words.{Contains, Descr, item_size, decode_item, AreA
 use Rattle.name_store.specs.States.{State, Array}
 use Rattle.name_store.specs.Arrays.{find_array, buffer_of, descr_of, addresses, read}
 use Rattle.name_store.specs.Views.{IsViewIn}
-use Rattle.name_store.specs.declared.write.Source.{Source}
-use Rattle.name_store.specs.declared.write.Source.TheVariants.{One, Block, Buffer}
-use Rattle.name_store.specs.declared.write.Target.{Target}
-use Rattle.name_store.specs.declared.write.Target.TheVariants.{View, Plan}
+use Rattle.name_store.specs.declared.target.Source.{Source}
+use Rattle.name_store.specs.declared.target.Source.TheVariants.{One, Block, Buffer}
+use Rattle.name_store.specs.declared.target.Target.{Target}
+use Rattle.name_store.specs.declared.target.Target.TheVariants.{View, Plan}
 
 -- Targets
 

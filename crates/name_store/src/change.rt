@@ -1,16 +1,8 @@
 //! Changes of the bench, as `undo` needs them.
 
 use crate::bound::Entry;
-use crate::write::Target;
+use crate::target::{OldItems, Target};
 use elem_descr::Name;
-use raw_block::RawBlock;
-
-/// Adjacent items of `width` bytes.
-#[derive(Drop)]
-pub struct OldItems {
-    pub block: RawBlock,
-    pub width: usize,
-}
 
 /// A change of the bench, with all that is needed to undo it. A stored entry counts
 /// as a user of its buffer. A stored write does not: as long as the write is in the history, the

@@ -11,12 +11,13 @@ mod rewrite;
 mod slot;
 mod slots;
 mod table;
+mod target;
 mod write;
 
 pub use bench::Bench;
 pub use bound::{ArrayRef, Bound};
 pub use path::Path;
-pub use write::{Source, Target};
+pub use target::{Source, Target};
 
 // A crate can name a bench in a contract only if the types of its fields are exported.
 #[doc(hidden)]

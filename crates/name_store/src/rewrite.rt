@@ -2,8 +2,7 @@
 ghost use Rattle.std.specs.Prelude.{◌≡◌, ◌+◌, ◌*◌, ◌≤◌, length, All, IfOk, IfErr, IsOk, IsTrue};
 ghost use Rattle.name_store.specs.Clauses.{AreOld, ArePaired, AreShifted, Assigns, EachWithin, Fits, InPlace, MayPut, assigned, flat_map, max_bytes, offsets, put_each, run_offsets, target_offsets, with_old};
 
-use crate::change::OldItems;
-use crate::write::Target;
+use crate::target::{OldItems, Target};
 use arrays::{gather, scatter, strided};
 use overlap_copy::{assign, assign_from, assign_shifted, in_any_order};
 use raw_block::RawBlock;

@@ -6,22 +6,15 @@ ghost use Rattle.name_store.specs.Places.{IsElementType};
 ghost use Rattle.name_store.specs.inside.HeldOnce.{Holds-prop};
 
 use crate::bound::{Bound, Entry};
-use crate::change::{Change, OldItems};
+use crate::change::Change;
 use crate::path::Path;
 use crate::rewrite::put_back;
 use crate::slot::Slot;
 use crate::slots::Slots;
-use crate::write::Target;
+use crate::target::{Home, OldItems, Target};
 use elem_descr::{Descr, Name};
 use indexmap::IndexMap;
 use std::alloc::{AllocError, Global};
-
-/// Where an array is: the number of its buffer, and the size of its items.
-#[derive(Clone, Copy)]
-pub struct Home {
-    pub number: usize,
-    pub width: usize,
-}
 
 /// Names and their arrays, in the order in which the names were first bound, and the buffers of the
 /// arrays, by number.

@@ -2,64 +2,18 @@
 ghost use Rattle.std.specs.Prelude.{IfOk, IfSome, IsFalse, IsOk, IsTrue, is_some, length, replicate, ◌≡◌};
 ghost use Rattle.name_store.specs.Clauses.{target_offsets, target_shape, AreAll, IsPacked, AreKept, AreKeptAt, AreOld, CanWrite, IsNear, MayRun, NeedsNone, Runs, RunsInPlace, Writes, parts_for, without_slot};
 
-use crate::change::OldItems;
 use crate::rewrite::{copy_to, fill, move_to, old_items};
 use crate::slot::Slot;
-use crate::table::Home;
-use arrays::{Owned, gather, goes_by_columns};
-use fancy_index::Plan;
+use crate::target::{Home, OldItems, Source, Target};
+use arrays::{gather, goes_by_columns};
 use overlap_copy::{exchange, overwrite, overwrite_each};
 use raw_block::{BlockBuilder, RawBlock};
-use shape_strides::{Layout, Shape, in_memory_order, lies_in_c_order};
-use smallvec::SmallVec;
+use shape_strides::{Layout, in_memory_order, lies_in_c_order};
 use std::alloc::{AllocError, Global};
 use std::mem::replace;
 
 /// Fewer bytes than this are still in the cache on a second pass.
 const MANY_BYTES: usize = 32_768;
-
-/// The places of a name's array where items are written.
-#[derive(Drop)]
-pub enum Target {
-    /// A view of the array.
-    View(Layout),
-    /// The items that an index list with arrays selects. If an item is selected more than once, the
-    /// last write stands.
-    Plan(Plan),
-}
-
-impl Target {
-    /// The shape of the items.
-    pub fn shape(&self) -> &Shape
-        ensures { result.now ≡ target_shape self.now }
-    {
-        match self {
-            Target::View(layout) => &layout.shape,
-            Target::Plan(plan) => plan.shape(),
-        }
-    }
-
-    /// How many items there are.
-    pub(crate) fn count(&self) -> usize
-        ensures { result ≡ length (target_offsets self.now) }
-    {
-        match self {
-            Target::View(layout) => layout.shape.items(),
-            Target::Plan(plan) => plan.len(),
-        }
-    }
-}
-
-/// The items to write. They have the element type of the target.
-#[derive(Drop)]
-pub enum Source {
-    /// The bytes of one item, which is written to every place.
-    One(SmallVec<u8, 16>),
-    /// An array that owns its block, with one item for each place.
-    Block(Owned),
-    /// The items of a layout in the buffer with this number, one for each place.
-    Buffer(u64, Layout),
-}
 
 /// Old items, and the places where they were.
 #[derive(Drop)]

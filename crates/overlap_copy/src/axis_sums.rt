@@ -2,7 +2,6 @@
 ghost use Rattle.std.specs.Prelude.{false, ◌<◌, ◌≡◌};
 ghost use Rattle.overlap_copy.specs.Clauses.{No, Yes, AreForward, HasSum, reach_of, stepping, IsTurn, IsGcd};
 
-use crate::by_axes::join_all;
 use shape_strides::Axis;
 
 /// How many steps a search may take.
@@ -29,6 +28,49 @@ fn reach_of(axes: &[Axis]) -> usize
         reach += axis.step * (axis.len - 1);
     }
     reach
+}
+
+/// Puts an axis before the axes that start at `from`, or joins it with the first of them if a step
+/// of it is a whole number of steps of that one, and at most as many as it has items. Returns their
+/// new start.
+fn put_before(axes: &mut [Axis], from: usize, wide: Axis) -> usize
+    requires some { 0 < from }
+    requires within { from ≤ length axes.old }
+    requires forward { AreForward (wide ∷ drop from axes.old) }
+    ensures len { length axes.new ≡ length axes.old }
+    ensures low { from ≤ result + 1 }
+    ensures high { result ≤ length axes.new }
+    ensures joined { AreJoined (wide ∷ drop from axes.old) (drop result axes.new) }
+    ensures others { (k : ℕ) (d : Axis) → k + 1 < from
+        → slice_index_or axes.new k d ≡ slice_index_or axes.old k d }
+{
+    if from < axes.len() {
+        let narrow = axes[from];
+        let times = wide.step / narrow.step;
+        if wide.step % narrow.step == 0 && times <= narrow.len {
+            axes[from].len = times * (wide.len - 1) + narrow.len;
+            return from;
+        }
+    }
+    axes[from - 1] = wide;
+    from - 1
+}
+
+/// Joins axes, each with the next narrower one. Returns the start of the axes that are left.
+pub(crate) fn join_all(axes: &mut [Axis]) -> usize
+    requires { AreForward axes.old }
+    ensures len { length axes.new ≡ length axes.old }
+    ensures within { result ≤ length axes.new }
+    ensures joined { AreJoined axes.old (drop result axes.new) }
+{
+    let mut from = axes.len();
+    let mut left = from;
+    while left > 0 {
+        left -= 1;
+        let wide = axes[left];
+        from = put_before(axes, from, wide);
+    }
+    from
 }
 
 /// Whether some sum along the axes lies within the bounds, decided by divisors or a search. It

@@ -8,7 +8,7 @@ ghost use Rattle.reductions.specs.inside.FoldLaws.{total_of, total, total_is, to
 ghost use Rattle.reductions.specs.inside.FoundLaws.{HasFound, HasSought, better_next, better_stays};
 ghost use Rattle.reductions.specs.inside.Extremes.{reduction_of, places_of, is_better, better, best_of, best_from, best_is, best_size, place_is, place_size, better_kept, better_left};
 
-use crate::lines::{part, place_of};
+use crate::parts::{part, place_of};
 use machine_numbers::{Number, Ordered, Side};
 
 /// A reduction of numbers of one type, number by number. It starts with the first number, and then

@@ -6,6 +6,7 @@ mod by_reduction;
 mod fills;
 mod folds;
 mod lines;
+mod parts;
 mod reduced_axis;
 mod reducing;
 

@@ -5,6 +5,7 @@ ghost use Rattle.reductions.specs.Reductions.{first_place};
 ghost use Rattle.reductions.specs.inside.Numbers.{numbers_of, CanTakeIn, TakesIn, IsPart};
 
 use crate::folds::Fold;
+use crate::parts::part;
 use elem_descr::Scalar;
 use machine_numbers::{Number, Ordered, Side, place};
 use shape_strides::{Layout, Run, StridedAxis};
@@ -28,24 +29,6 @@ pub(crate) struct Lines<'a> {
     pub(crate) ghost within: { (j : ℕ) → j < starts.run.count
         → EachWithin (length starts.bytes.now) (place starts.run.offset starts.run.step j)
         axis.stride starts.width axis.len },
-}
-
-/// Some of the items, starting with one of them.
-#[inline(always)]
-pub(crate) fn part<'a>(side: Side<'a>, from: usize, count: usize) -> Side<'a>
-    requires from { from < side.run.count }
-    requires fits { from + count ≤ side.run.count }
-    ensures { IsPart from count side.entry result }
-{
-    Side {
-        bytes: side.bytes,
-        run: Run {
-            offset: place(side.run, from),
-            count,
-            ..side.run
-        },
-        width: side.width,
-    }
 }
 
 impl<'a> Lines<'a> {
@@ -117,24 +100,6 @@ fn fold_blocks<S: Number, O: Ordered, F: Fold<S>>(
         done += block.run.count;
     }
     held
-}
-
-/// The place of a number's first occurrence among others, or the number of them if it does not
-/// occur.
-#[inline(always)]
-pub(crate) fn place_of<S: Number, O: Ordered>(number: S, side: Side<'_>) -> usize
-    requires { side.width ≡ S.WIDTH }
-    ensures place { result
-        ≡ first_place (S.value number) (numbers_of (S.scalar O.order) side.entry) }
-    ensures within { result ≤ side.entry.run.count }
-{
-    let bits = number.bits();
-    for k in 0..side.run.count {
-        if side.number::<S, O>(k).bits() == bits {
-            return k;
-        }
-    }
-    side.run.count
 }
 
 /// Reduces numbers, with a loop of its own for adjacent ones. `seen` numbers come before them.

@@ -2,8 +2,6 @@
 ghost use Rattle.std.specs.Prelude.{IfOk, IfSome, MatchOption, OnOk, [], length, pos, reverse, ℕ, ℤ, ◌*◌, ◌<◌, ◌∷◌, ◌≡◌, ◌≤◌};
 ghost use Rattle.shape_strides.specs.Clauses.{RunWithin, count, all_joined, join_outside, leads_over, strided_axes, Fits, offsets, max_items, GoesBy, run_offsets, IsLastRun, if_long, lengths_of};
 
-use crate::layout::Layout;
-use crate::runs::Run;
 use smallvec::SmallVec;
 use std::alloc::{AllocError, Global};
 
@@ -64,47 +62,6 @@ pub(crate) fn last_run(lengths: &[usize], strides: &[isize]) -> LastRun
         along = one;
     }
     LastRun { outside: 0, along }
-}
-
-impl Layout {
-    /// The run that all items make: one or more, each of them one step after the one before. It
-    /// takes no memory.
-    pub fn as_one_run(&self) -> Option<Run>
-        ensures items { IfSome result (λ run. run_offsets run ≡ offsets self.now) }
-        ensures lie { (len item : ℕ) → Fits self.now len item
-            → IfSome result (RunWithin len item) }
-        ensures found { (step : ℤ) → 2 ≤ length (offsets self.now) → GoesBy step (offsets self.now)
-            → MatchOption result ⊥ (λ run. run.step ≡ step) }
-    {
-        if self.shape.items() == 0 {
-            return None;
-        }
-        let run = last_run(self.shape.as_slice(), self.strides.as_slice());
-        if run.outside > 0 {
-            return None;
-        }
-        Some(Run {
-            offset: self.offset,
-            count: run.along.len,
-            step: run.along.stride,
-        })
-    }
-
-    /// The run that all items make, if there are two or more.
-    pub fn as_run(&self) -> Option<Run>
-        ensures items { IfSome result (λ run. run_offsets run ≡ offsets self.now) }
-        ensures two { IfSome result (λ run. 2 ≤ run.count) }
-        ensures few { IfSome result (λ run. run.count ≤ max_items) }
-        ensures lie { (len item : ℕ) → Fits self.now len item
-            → IfSome result (RunWithin len item) }
-        ensures found { (step : ℤ) → 2 ≤ length (offsets self.now) → GoesBy step (offsets self.now)
-            → MatchOption result ⊥ (λ run. run.step ≡ step) }
-    {
-        if self.shape.items() < 2 {
-            return None;
-        }
-        self.as_one_run()
-    }
 }
 
 /// An axis: how many items it has, and how many bytes from one item to the next.

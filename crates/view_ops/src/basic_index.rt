@@ -2,7 +2,7 @@
 ghost use Rattle.std.specs.Prelude.{IfOk, count_by, drop, length, pos, slice_index_or, true, ◌+◌, ◌-◌, ◌<◌, ◌≡◌, ◌≤◌};
 ghost use Rattle.view_ops.specs.Clauses.{list_all, axes_taken, basic, has_step, takes_axis, width, GivesView, KeepsNested, Integer, is_basic};
 
-use crate::picks::{are_in_range, picks_of, with_picks};
+use crate::picks::{are_in_range, picks_of, taken, with_picks};
 use elem_descr::{IndexItem, Refusal};
 use shape_strides::Layout;
 use std::alloc::Global;
@@ -12,38 +12,6 @@ pub fn are_basic<A>(items: &[IndexItem<A>]) -> bool
     ensures { result ≡ list_all is_basic items.now }
 {
     items.iter().all(|item| item.is_basic())
-}
-
-fn takes_axis<A>(item: &IndexItem<A>) -> bool
-    ensures { result ≡ takes_axis item.now }
-{
-    !matches!(item, IndexItem::Ellipsis | IndexItem::NewAxis)
-}
-
-/// The number of axes that the items take, not counting those that `...` takes.
-pub(crate) fn taken<A>(items: &[IndexItem<A>]) -> usize
-    ensures { result ≡ axes_taken items.now }
-{
-    items.iter().filter(|item| takes_axis(*item)).count()
-}
-
-/// The axis after those that the item at place k takes, from `axis` on.
-pub(crate) fn axes_end<A>(rank: usize, axis: usize, items: &[IndexItem<A>], k: usize) -> usize
-    requires item { k < length items.now }
-    requires axis { axis ≤ rank }
-    requires enough { axes_taken (drop k items.now) ≤ rank - axis }
-    ensures value { result
-        ≡ axis + width (rank - axis) (slice_index_or items.now k (Integer (pos 0)))
-        (drop (k + 1) items.now) }
-    ensures from { axis ≤ result }
-    ensures within { result ≤ rank }
-    ensures enough { axes_taken (drop (k + 1) items.now) ≤ rank - result }
-{
-    match items[k] {
-        IndexItem::Ellipsis => rank - taken(&items[k + 1..]),
-        IndexItem::NewAxis => axis,
-        _ => axis + 1,
-    }
 }
 
 fn has_step<A>(item: &IndexItem<A>) -> bool

@@ -2,7 +2,6 @@
 ghost use Rattle.std.specs.Prelude.{IfOk, IsTrue, OnOk, [], false, length, map, pos, slice_index_or, true, ℕ, ◌++◌, ◌<◌, ◌∷◌, ◌≡◌, ◌≤◌};
 ghost use Rattle.view_ops.specs.Clauses.{flat_map, list_all, are_on_axes, axes_taken, axis_of, has_step, is_on_axis, picked_shape, picked_view, picks, picks_of, shape_picked, takes_axis, whole, ArePicks, first_of, pick_shown, GivesView, KeepsNested, Gives, NewAxis, is_basic, max_axes, AddsPicks, HaveSmallSteps, IsSmallPick, IsSmallStep, axes_of_pick, picked_strides, run_stride, stride_of};
 
-use crate::basic_index::axes_end;
 use crate::slice::{Progression, from_front, is_place, slice_of};
 use elem_descr::{IndexItem, Refusal};
 use shape_strides::{Layout, Shape, Strides};
@@ -16,6 +15,38 @@ pub enum AxisPick {
     Along(Progression),
     #[default]
     New,
+}
+
+fn takes_axis<A>(item: &IndexItem<A>) -> bool
+    ensures { result ≡ takes_axis item.now }
+{
+    !matches!(item, IndexItem::Ellipsis | IndexItem::NewAxis)
+}
+
+/// The number of axes that the items take, not counting those that `...` takes.
+pub(crate) fn taken<A>(items: &[IndexItem<A>]) -> usize
+    ensures { result ≡ axes_taken items.now }
+{
+    items.iter().filter(|item| takes_axis(*item)).count()
+}
+
+/// The axis after those that the item at place k takes, from `axis` on.
+pub(crate) fn axes_end<A>(rank: usize, axis: usize, items: &[IndexItem<A>], k: usize) -> usize
+    requires item { k < length items.now }
+    requires axis { axis ≤ rank }
+    requires enough { axes_taken (drop k items.now) ≤ rank - axis }
+    ensures value { result
+        ≡ axis + width (rank - axis) (slice_index_or items.now k (Integer (pos 0)))
+        (drop (k + 1) items.now) }
+    ensures from { axis ≤ result }
+    ensures within { result ≤ rank }
+    ensures enough { axes_taken (drop (k + 1) items.now) ≤ rank - result }
+{
+    match items[k] {
+        IndexItem::Ellipsis => rank - taken(&items[k + 1..]),
+        IndexItem::NewAxis => axis,
+        _ => axis + 1,
+    }
 }
 
 fn is_in_range<A>(axes: &[usize], item: &IndexItem<A>) -> bool

@@ -4,11 +4,11 @@ use Rattle.name_store.specs.Words.{IsPacked, IsPermutation, option_map, items_at
 use Rattle.name_store.specs.Invariants.{users_at}
 use Rattle.name_store.specs.Targets.{target_offsets}
 use Rattle.name_store.specs.View.{slot_at}
-use Rattle.name_store.specs.declared.table.Home.{Home}
-use Rattle.name_store.specs.declared.change.OldItems.{OldItems}
+use Rattle.name_store.specs.declared.target.Home.{Home}
+use Rattle.name_store.specs.declared.target.OldItems.{OldItems}
 use Rattle.name_store.specs.declared.slot.Slot.{Slot}
 use Rattle.name_store.specs.declared.write.Overwritten.{Overwritten}
-use Rattle.name_store.specs.declared.write.Target.{Target}
+use Rattle.name_store.specs.declared.target.Target.{Target}
 use Rattle.name_store.specs.inside.Held.{stand}
 
 -- `o` has the items of `width` bytes that a block has at the offsets `os`, in this order

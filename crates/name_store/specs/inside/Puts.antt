@@ -4,12 +4,12 @@ use Rattle.name_store.specs.Words.{IsPermutation, item_size, Layout, offsets, Fi
 use Rattle.name_store.specs.Memory.{MoveInPlace}
 use Rattle.name_store.specs.Targets.{target_offsets}
 use Rattle.name_store.specs.View.{slot_at}
-use Rattle.name_store.specs.declared.table.Home.{Home}
+use Rattle.name_store.specs.declared.target.Home.{Home}
 use Rattle.name_store.specs.declared.slot.Slot.{Slot}
-use Rattle.name_store.specs.declared.write.Source.{Source}
-use Rattle.name_store.specs.declared.write.Source.TheVariants.{One, Block, Buffer}
-use Rattle.name_store.specs.declared.write.Target.{Target}
-use Rattle.name_store.specs.declared.write.Target.TheVariants.{View, Plan}
+use Rattle.name_store.specs.declared.target.Source.{Source}
+use Rattle.name_store.specs.declared.target.Source.TheVariants.{One, Block, Buffer}
+use Rattle.name_store.specs.declared.target.Target.{Target}
+use Rattle.name_store.specs.declared.target.Target.TheVariants.{View, Plan}
 use Rattle.name_store.specs.declared.write.Writer.{Writer}
 use Rattle.name_store.specs.inside.Homes.{HasNew}
 use Rattle.name_store.specs.inside.OldItems.{AreSame}

@@ -1,6 +1,6 @@
 use Rattle.std.proofs.Common.{◌≤◌, ◌+◌, ◌*◌, ℕ, length, refl, sym, subst, ◌∙◌, Ok, Err}
 use Rattle.bench_engine.proofs.Words.{err_from_is_err_and, All-permutation, length_permutation, Descr, item_size, count, length-offsets, offsets, max_bytes, IsShape, operand_values, updated_items, Meets, HoldsItems}
-use Rattle.name_store.specs.declared.write.Target.TheVariants.{View}
+use Rattle.name_store.specs.declared.target.Target.TheVariants.{View}
 use Rattle.bench_engine.proofs.Moved.{items-gives, together-inside, together-moved, unmoved-gives}
 use Rattle.bench_engine.proofs.OperandLaws.{all-stand}
 use Rattle.bench_engine.proofs.Written.{old-view, view-inside}

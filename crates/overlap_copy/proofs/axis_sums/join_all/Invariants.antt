@@ -1,5 +1,5 @@
 use Rattle.overlap_copy.proofs.JoinLaws.{IsJoinedDownTo}
-use Rattle.overlap_copy.proofs.by_axes.join_all.Given as goal
+use Rattle.overlap_copy.proofs.axis_sums.join_all.Given as goal
 
 abbrev pub invariant-loop-left : goal.invariant-loop-left
 invariant-loop-left l = IsJoinedDownTo l.initial.axes l.axes l.left l.from

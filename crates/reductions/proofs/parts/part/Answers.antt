@@ -1,7 +1,7 @@
 use Rattle.std.proofs.Common.{subst, length, sym, rules}
 use Rattle.reductions.proofs.Words.{EachWithin}
 use Rattle.reductions.proofs.LineLaws.{part_within}
-use Rattle.reductions.proofs.lines.part.Goals as goal
+use Rattle.reductions.proofs.parts.part.Goals as goal
 
 pub invariant_of-result-clause-within : goal.invariant_of-result-clause-within
 invariant_of-result-clause-within c =

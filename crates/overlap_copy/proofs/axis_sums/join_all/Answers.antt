@@ -1,6 +1,6 @@
 use Rattle.overlap_copy.proofs.SearchLaws.{no_axis}
 use Rattle.overlap_copy.proofs.JoinLaws.{forward_next, joined_next}
-use Rattle.overlap_copy.proofs.by_axes.join_all.Goals as goal
+use Rattle.overlap_copy.proofs.axis_sums.join_all.Goals as goal
 
 pub put_before-from-requires-clause-forward : goal.put_before-from-requires-clause-forward
 put_before-from-requires-clause-forward c =

@@ -1,7 +1,7 @@
 use Rattle.std.proofs.Common.{◌≡◌}
 use Rattle.reductions.proofs.Words.{run_offsets, first_place, numbers_at}
 use Rattle.reductions.proofs.LineLaws.{front}
-use Rattle.reductions.proofs.lines.place_of.Given as goal
+use Rattle.reductions.proofs.parts.place_of.Given as goal
 
 -- the number is not among the first ones
 abbrev pub invariant-loop-k : goal.invariant-loop-k

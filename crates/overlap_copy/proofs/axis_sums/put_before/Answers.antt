@@ -1,7 +1,7 @@
 use Rattle.std.proofs.Common.{arith}
 use Rattle.overlap_copy.proofs.SearchLaws.{no_axis}
 use Rattle.overlap_copy.proofs.JoinLaws.{join_small, wide_some, narrow_some, put_joined}
-use Rattle.overlap_copy.proofs.by_axes.put_before.Goals as goal
+use Rattle.overlap_copy.proofs.axis_sums.put_before.Goals as goal
 
 pub nonzero_rem-wide : goal.nonzero_rem-wide
 nonzero_rem-wide c = (narrow_some c.args.wide c.args.axes.now c.args.from no_axis c.if-from-axes.true c.requires.forward).0

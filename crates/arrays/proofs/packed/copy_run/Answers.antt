@@ -1,7 +1,7 @@
 use Rattle.std.proofs.Common.{sym, ◌∙◌}
 use Rattle.arrays.proofs.Words.{copied}
 use Rattle.arrays.proofs.RunCopies.{copied-even}
-use Rattle.arrays.proofs.copies.copy_run.Goals as goal
+use Rattle.arrays.proofs.packed.copy_run.Goals as goal
 
 pub returns-clause-written : goal.returns-clause-written
 returns-clause-written c =

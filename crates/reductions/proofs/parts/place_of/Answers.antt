@@ -1,7 +1,7 @@
 use Rattle.std.proofs.Common.{◌≡◌, ◌+◌, ◌∷◌, [], ◌++◌, length, sym, ap, ◌∙◌}
 use Rattle.reductions.proofs.Words.{integer, low_bits, run_offsets, first_place, absent-next, numbers_at}
 use Rattle.reductions.proofs.LineLaws.{front, numbers-more, length-numbers, found_in, side_number}
-use Rattle.reductions.proofs.lines.place_of.Goals as goal
+use Rattle.reductions.proofs.parts.place_of.Goals as goal
 
 pub returns-then-bits-clause-place : goal.returns-then-bits-clause-place
 returns-then-bits-clause-place g c =
