@@ -1,9 +1,9 @@
 //! The items of a layout, run by run.
 ghost use Rattle.shape_strides.specs.Indexes.{count};
 ghost use Rattle.shape_strides.specs.Layouts.{Fits, offsets};
-ghost use Rattle.shape_strides.specs.Limits.{max_bytes};
-ghost use Rattle.shape_strides.specs.Runs.{RunWithin, run_along, run_offsets};
-ghost use Rattle.std.specs.Prelude.{All, IsTrue, length, map, ℕ, ℤ, ◌+◌, ◌<◌, ◌↔◌, ◌≡◌, ◌≤◌};
+ghost use Rattle.shape_strides.specs.Limits.{max_bytes, max_items};
+ghost use Rattle.shape_strides.specs.Runs.{GoesBy, RunWithin, run_along, run_offsets};
+ghost use Rattle.std.specs.Prelude.{All, IfSome, IsTrue, MatchOption, length, map, ℕ, ℤ, ◌+◌, ◌<◌, ◌↔◌, ◌≡◌, ◌≤◌};
 ghost use Rattle.shape_strides.specs.Words.{flat_map};
 
 use crate::layout::Layout;
