@@ -2,8 +2,8 @@
 ghost use Rattle.std.specs.Prelude.{◌≡◌, ◌+◌, ◌*◌, ◌++◌, ◌<◌, ◌≤◌, length, replicate, All, IfOk, IfErr};
 ghost use Rattle.overlap_copy.specs.Clauses.{ArePaired, BeginsWithin, CanOverwrite, IsNested, IsPacked, Overwrites, RunsLie, assigned, items_at, max_items, offsets, run_offsets, with_items};
 
-use arrays::{copy_run, push_run};
 use crate::tuning::KEPT_ITEMS;
+use arrays::{copy_run, push_run};
 use raw_block::{BlockBuilder, RawBlock};
 use shape_strides::{Layout, Run, RunPair, RunPairs, Shape, Strides};
 use std::alloc::{AllocError, Global};
