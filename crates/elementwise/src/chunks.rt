@@ -7,7 +7,7 @@ ghost use Rattle.elementwise.specs.inside.LeafCasts.{run_part};
 ghost use Rattle.elementwise.specs.inside.Added.{AreAdded};
 ghost use Rattle.elementwise.specs.inside.Works.{target_of};
 
-use crate::apply::Held;
+use crate::held::Held;
 use crate::operands::Broadcast;
 use crate::pairing::Pairing;
 use crate::row_pairs::Operands;
