@@ -3,13 +3,14 @@ ghost use Rattle.std.specs.Prelude.{IfOk, IfSome, IsTrue, map, ◌≡◌};
 ghost use Rattle.elementwise.specs.Clauses.{GivesArray, cast_item, binary_item, binary_result, pairwise, unary_item, unary_result, AreAlike, item_from, items, offsets, AreCastable, IsCombined, items_stretched};
 
 use crate::castable::keeps_items;
-use crate::chunks::{InRuns, MANY_ITEMS, make_by_chunks};
+use crate::chunks::{InRuns, make_by_chunks};
 use crate::held::Held;
 use crate::operands::{Broadcast, made, read_as};
 use crate::operations::Work;
 use crate::pairing::Pairing;
 use crate::promotion::{promote, promote_one, scalar_of};
 use crate::row_pairs::Operands;
+use crate::tuning::MANY_ITEMS;
 use arrays::{Items, Owned};
 use broadcasting::{common, stretched_to};
 use elem_descr::{BinOp, Descr, Refusal, UnOp};

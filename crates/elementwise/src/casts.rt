@@ -9,18 +9,13 @@ use crate::operands::made;
 use crate::operations::Work;
 use crate::pairing::Pairing;
 use crate::row_pairs::Operands;
+use crate::tuning::{BAND, FEWEST_IN_BAND};
 use arrays::{Items, Owned, gather};
 use elem_descr::{Descr, Leaf, MemoryOrder, Refusal, Scalar};
 use machine_numbers::{Side, is_text, place};
 use raw_block::{BlockBuilder, RawBlock};
 use shape_strides::{MAX_BYTES, Run};
 use std::alloc::{AllocError, Global};
-
-/// The size of a band, so that it stays in the first-level cache.
-const NEAR: usize = 8192;
-
-/// The fewest items of a band.
-const FEW: usize = 32;
 
 /// The leaf that is cast to the one with this number.
 fn source_of(descr: &Descr, k: usize) -> Leaf
@@ -131,7 +126,7 @@ fn cast_run(
 {
     let count = from.run.count;
     let size = to.size();
-    let most = FEW.max(NEAR / size);
+    let most = FEWEST_IN_BAND.max(BAND / size);
     let mut cast = BlockBuilder::try_new(alloc, count * size)?;
     let mut done = 0;
     while done < count {

@@ -11,15 +11,10 @@ use crate::bits::{self, is_negative, magnitude, note_slice};
 use crate::byte_divisions::push_divided_bytes;
 use crate::kernels::{Kernel, Numbers};
 use crate::row_pairs::{Pairs, Pass};
+use crate::tuning::{FEW_PAIRS, MANY_BYTES};
 use machine_numbers::{LowFirst, Number, Ordered};
 use raw_block::BlockBuilder;
 use std::marker::PhantomData;
-
-/// Fewer pairs than this are divided one by one.
-const FEW: usize = 4;
-
-/// Fewer pairs of bytes than this are not worth a table of reciprocals.
-const MANY_BYTES: usize = 2048;
 
 /// The divisor of all pairs, if there are many pairs with a single divisor other than 0.
 fn divisor_of<N: Number, O: Ordered>(pairs: Pairs<'_, '_>) -> Option<Divisor>
@@ -33,7 +28,7 @@ fn divisor_of<N: Number, O: Ordered>(pairs: Pairs<'_, '_>) -> Option<Divisor>
         → number_of_side (N.scalar O.order) pairs.entry.right k ≡ integer N.SIGNED 8 d.bits) }
 {
     note_slice(pairs.right.bytes);
-    if pairs.right.run.step != 0 || pairs.right.run.count < FEW {
+    if pairs.right.run.step != 0 || pairs.right.run.count < FEW_PAIRS {
         return None;
     }
     let bits = pairs.right.number::<N, O>(0).bits();

@@ -2,12 +2,10 @@
 ghost use Rattle.std.specs.Prelude.{◌≡◌};
 ghost use Rattle.elementwise.specs.Clauses.{items, held_descr, held_items, held_shape};
 
+use crate::tuning::FEW_ITEMS;
 use arrays::{Items, Owned, copy, goes_by_columns};
 use elem_descr::MemoryOrder;
 use std::alloc::Global;
-
-/// Operands with fewer items than this are combined in the order of their axes.
-pub(crate) const FEW: usize = 4096;
 
 /// Items in place, or in a block of their own.
 #[derive(Drop)]
@@ -24,7 +22,7 @@ impl<'a> Held<'a> {
         ensures shape { held_shape result ≡ from.entry.layout.now.shape }
         ensures items { held_items result ≡ items from.entry }
     {
-        if from.layout.shape.items() < FEW || !goes_by_columns(from.layout) {
+        if from.layout.shape.items() < FEW_ITEMS || !goes_by_columns(from.layout) {
             return Held::Kept(from);
         }
         match copy(alloc, from.block, from.layout, from.descr, MemoryOrder::C) {

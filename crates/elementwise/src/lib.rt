@@ -24,6 +24,7 @@ mod pairing;
 mod promotion;
 mod row_pairs;
 mod text_comparisons;
+mod tuning;
 
 pub use apply::{apply1, apply2};
 pub use arrays::Items;

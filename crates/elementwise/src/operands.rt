@@ -4,10 +4,11 @@ ghost use Rattle.elementwise.specs.Words.{can_stretch, little};
 ghost use Rattle.elementwise.specs.inside.Made.{IsTurned};
 ghost use Rattle.elementwise.specs.inside.Operands.{AreMatched, IsPaired};
 
-use crate::held::{FEW, Held};
+use crate::held::Held;
 use crate::layouts::Layouts;
 use crate::pairing::Pairing;
 use crate::row_pairs::Operands;
+use crate::tuning::{ADJACENT, FEW_ITEMS};
 use arrays::{Items, Owned, gather, goes_by_columns};
 use elem_descr::{Descr, MemoryOrder, Scalar};
 use machine_numbers::little;
@@ -39,13 +40,10 @@ pub(crate) fn read_as(scalar: &Scalar, left: Items<'_>, right: Items<'_>) -> Sca
     }
 }
 
-/// Items that are closer to each other than this, or at one place, are as near as adjacent ones.
-const NEAR: usize = 8;
-
 /// The distance between the items of a row.
 fn step(layout: &Layout) -> usize {
     let Rows { starts: _, along } = layout.rows();
-    along.stride.unsigned_abs().max(NEAR)
+    along.stride.unsigned_abs().max(ADJACENT)
 }
 
 /// Both layouts with their axes reversed, if that brings successive items closer together and
@@ -135,7 +133,7 @@ pub(crate) fn made(
     requires { AreMatched pairing.now operands }
     ensures { IfOk result (IsPaired pairing.now operands.entry) }
 {
-    if operands.left.layout.shape.items() < FEW || operands.as_row().is_some() {
+    if operands.left.layout.shape.items() < FEW_ITEMS || operands.as_row().is_some() {
         return made_by_rows(alloc, pairing, operands);
     }
     made_of_many(alloc, pairing, operands)
