@@ -12,10 +12,10 @@ pub use Rattle.elementwise.specs.Words.{Add, And, AreAlike, AreBits, AreBytes, B
 pub use Rattle.elementwise.specs.declared.chunks.InRuns.{InRuns}
 pub use Rattle.elementwise.specs.declared.layouts.Layouts.{Layouts}
 pub use Rattle.elementwise.specs.declared.operands.Broadcast.{Broadcast}
-pub use Rattle.elementwise.specs.declared.operations.Work.TheVariants.{Cast, Change, Combine, Compare}
 pub use Rattle.elementwise.specs.declared.operations.Work.{Work}
-pub use Rattle.elementwise.specs.declared.pairing.Pairing.TheVariants.{Alike, Signs, Texts}
+pub use Rattle.elementwise.specs.declared.operations.Work.TheVariants.{Cast, Change, Combine, Compare}
 pub use Rattle.elementwise.specs.declared.pairing.Pairing.{Pairing}
+pub use Rattle.elementwise.specs.declared.pairing.Pairing.TheVariants.{Alike, Signs, Texts}
 pub use Rattle.elementwise.specs.declared.row_pairs.Operands.{Operands}
 pub use Rattle.elementwise.specs.inside.Columns.{with_leaves}
 pub use Rattle.elementwise.specs.inside.Combined.{AreComparedWith, all_given, given, run_items}
