@@ -2,10 +2,8 @@
 ghost use Rattle.std.specs.Prelude.{false, ◌<◌, ◌≡◌};
 ghost use Rattle.overlap_copy.specs.Clauses.{No, Yes, AreForward, HasSum, reach_of, stepping, IsTurn, IsGcd};
 
+use crate::tuning::MAX_STEPS;
 use shape_strides::Axis;
-
-/// How many steps a search may take.
-const MAX_STEPS: usize = 10_000;
 
 /// An axis with a step other than 0: an axis of one item, or of step 0, becomes an axis of one
 /// item.
