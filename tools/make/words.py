@@ -5,8 +5,9 @@ import re
 import sys
 
 TOP = pathlib.Path(__file__).resolve().parents[2]
-sys.path.insert(0, str(TOP / "companion"))
-from bench_tool import language
+sys.path[:0] = [str(TOP / "companion"), str(TOP / "tools/make")]
+import reading  # noqa: E402
+from bench_tool import language  # noqa: E402
 
 HELP, SOURCE, FILES = "docs/help.txt", "crates/host_process/src/command_line.rt", "docs/FILES.md"
 LISTS = re.compile(r"((OP is one of|the comparisons|UN (?:is )?one of|RED (?:is )?one of)\s+(?:\.B )?)[a-z ]+")
@@ -53,12 +54,13 @@ def said(source):
 
 
 def listing():
-    """A line for each source file, crate by crate, lowest first."""
-    page = "# Files\n\nWhat each source file holds, by crate, lowest first: the first sentence of its `//!`."
-    page += " `make words` writes this page.\n"
+    """A line for each source file, crate by crate, lowest first, in the order in which they can be read."""
+    page = "# Files\n\nWhat each source file holds: the first sentence of its `//!`. The crates stand lowest first. Read the files of a crate from"
+    page += " top to bottom:\n`lib.rt` says what the crate offers, and each of the others stands after those that it imports. No file imports one"
+    page += " that imports it,\ndirectly or through others. `make words` writes this page.\n"
     for crate in re.findall(r"(?m)^(\w+)(?: staticlib)?:", (TOP / "crates.txt").read_text()):
         folder = TOP / "crates" / crate / "src"
-        rows = [f"| `{path.relative_to(folder)}` | {said(path.read_text())} |\n" for path in sorted(folder.rglob("*.rt"))]
+        rows = [f"| `{path.relative_to(folder)}` | {said(path.read_text())} |\n" for path in reading.in_order(crate)]
         page += f"\n## {crate}\n\n| File | What it holds |\n|---|---|\n" + "".join(rows)
     return page
 

@@ -5,6 +5,7 @@ ghost use Rattle.array_print.specs.Clauses.{array_text, items_from, Sends, Sends
 use crate::axes::{repeats, step_along};
 use crate::padding::{push_again, push_lead};
 use crate::printer::{Items, push_block};
+use crate::tuning::{BAND, SHORT_ITEM};
 use crate::widths::widths_of;
 use elem_descr::Descr;
 use shape_strides::Layout;
@@ -63,10 +64,6 @@ fn axis_room(room: usize, layout: &Layout, axis: usize) -> usize
         .saturating_mul(lengths[axis])
         .saturating_add(2)
 }
-
-/// Items up to this size are formatted once per band when stride 0 repeats them; larger ones are
-/// formatted once and copied.
-const SHORT_ITEM: usize = 64;
 
 /// The first axis with blocks that are made whole, since each fits into a band, and the most bytes
 /// of such a block. If there is no such axis, each item is made whole.
@@ -237,9 +234,6 @@ pub fn send<W: Write>(writer: &mut W, bytes: &[u8]) -> Result<(), WriteFault>
     }
     Ok(())
 }
-
-/// The least number of bytes of a long text that are sent at once.
-pub const BAND: usize = 65_536;
 
 /// Sends the text made so far, if it is at least a band.
 pub fn send_band<W: Write>(writer: &mut W, out: &mut Vec<u8>) -> Result<(), WriteFault>

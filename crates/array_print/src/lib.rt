@@ -5,6 +5,7 @@ mod axes;
 mod bands;
 mod padding;
 mod printer;
+mod tuning;
 mod values;
 mod widths;
 

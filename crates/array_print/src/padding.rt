@@ -2,6 +2,7 @@
 ghost use Rattle.std.specs.Prelude.{◌≤◌, ◌++◌, codes, length, drop, slice_range, replicate};
 ghost use Rattle.array_print.specs.Clauses.{Pushes, separator, right_justified, record_end, lead, repeated};
 
+use crate::tuning::COPIED;
 use std::alloc::AllocError;
 
 /// Appends `n` copies of a byte. If memory runs out, some may be past the old end.
@@ -53,9 +54,6 @@ fn push_separator(out: &mut Vec<u8>, brackets: usize, inner: usize) -> Result<()
     push_few(out, b'\n', inner)?;
     push_few(out, b' ', brackets + 1)
 }
-
-/// How many bytes of a text are copied at once.
-const COPIED: usize = 1024;
 
 /// Appends a copy of the bytes from `from` to `to`, in place. As many as possible are copied by
 /// 1,024 at once, and held in between.

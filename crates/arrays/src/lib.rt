@@ -5,6 +5,7 @@ mod copies;
 mod items;
 mod owned;
 mod packed;
+mod tuning;
 
 pub use copies::copy;
 pub use items::Items;

@@ -2,6 +2,7 @@
 ghost use Rattle.std.specs.Prelude.{All, IfOk, length, pos, ◌*◌, ◌++◌, ◌+◌, ◌<◌, ◌^◌, ◌≡◌, ◌≤◌};
 ghost use Rattle.arrays.specs.Clauses.{assigned, items_at, joined_at, EachWithin, item_at, multiples, offsets, run_offsets, grid_of};
 
+use crate::tuning::{FEW_ROWS, SHORT_ROW};
 use raw_block::{BlockBuilder, Grid, RawBlock, Steps, StridedItems, part};
 use shape_strides::{Layout, Rows, Run, Runs, StridedAxis};
 use std::alloc::{AllocError, Global};
@@ -111,21 +112,15 @@ pub fn scatter(block: &mut RawBlock, layout: &Layout, items: &RawBlock, width: u
     }
 }
 
-/// Fewer rows than this are copied one by one.
-const FEW: usize = 16;
-
-/// Rows with fewer items than this are short.
-const SHORT: usize = 32;
-
 /// Whether a layout has many rows at equal steps that are short, or closer to each other than their
 /// items are. A hint: either answer is right.
 pub fn goes_by_columns(layout: &Layout) -> bool {
     let Rows { starts, along } = layout.rows();
     let mut starts = starts;
     match starts.next() {
-        Some(run) if run.count >= FEW => {
+        Some(run) if run.count >= FEW_ROWS => {
             let step = run.step.unsigned_abs();
-            along.len < SHORT || (step != 0 && step < along.stride.unsigned_abs())
+            along.len < SHORT_ROW || (step != 0 && step < along.stride.unsigned_abs())
         }
         _ => false,
     }

@@ -8,6 +8,7 @@ mod engine;
 mod files;
 mod index_list;
 mod line;
+mod operands;
 mod operate;
 mod printing;
 mod replies;

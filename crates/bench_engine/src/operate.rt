@@ -1,121 +1,26 @@
 //! `X = copy Y C`, `cast Y D`, `OP operand Z`, `neg operand`, `RED Y [axis] [keep]`: compute an
 //! array, and bind a name to it.
-ghost use Rattle.std.specs.Prelude.{◌≡◌, ◌≤◌, ◌+◌, true, length, All, ◌∷◌, [], map, IfOk, Some};
-ghost use Rattle.bench_engine.specs.Clauses.{list_all, item_size, offsets, is_bound, State, Gives, Answers, item_from, promote, integer_compared_result, compared_item, item_value, literal_number, Boolean, Array, operand_part, names_in_operand, names_in_argument, OperandValues, literal_value, literal_scalar, operand_of_literal, compared_literal, literal_values, operation_scalar, operation_on, operation_with, argument_values, compute_outcome, AreSources, IsGiven, IsNamed, IsNamedBy, IsPart, Knows, LiesInBuffer, OwnStands, Stands, StandsFor, buffer_number, ScalarDescr};
+ghost use Rattle.std.specs.Prelude.{◌≡◌, true, ◌∷◌, [], map, IfOk, Some};
+ghost use Rattle.bench_engine.specs.Clauses.{list_all, offsets, is_bound, Gives, Answers, item_from, promote, integer_compared_result, compared_item, item_value, literal_number, Boolean, OperandValues, literal_value, literal_scalar, operand_of_literal, compared_literal, literal_values, operation_scalar, operation_on, operation_with, argument_values, compute_outcome, AreSources, IsGiven, Knows, OwnStands, Stands, ScalarDescr};
 ghost use Rattle.elem_descr.specs.Values as leaf;
 ghost use Rattle.script_lang.specs.declared.command.Operation.TheVariants as operation;
 ghost use Rattle.bench_engine.specs.Clauses.{held, IsInCOrder, bound_in_computation, computed_contents, origin_of, CarriesOut, Meets};
 
 use crate::create::{bind_new, filled, item_of};
-use crate::index_list::{named_array, named_target};
+use crate::index_list::named_array;
+use crate::operands::{Given, argument_array, given_by, items_of_view, operand_part};
 use crate::replies::Origin;
 use crate::reply_text::ReplyText;
-use crate::write::{Given, given_by};
 use arrays::Owned;
 use elem_descr::{BinOp, Comparison, Descr, MemoryOrder, Name, Red, Refusal, Scalar, descr_read};
 use elementwise::{
     Items, apply1, apply2, compare, compare_bytes, compare_integer, compared_type, literal_type,
     promote, scalar_of,
 };
-use name_store::{ArrayRef, Bench, Target};
-use script_lang::{Argument, Computation, Literal, Operand, Operation, ScalarLiteral};
-use shape_strides::{Layout, Shape};
+use name_store::{ArrayRef, Bench};
+use script_lang::{Computation, Literal, Operation, ScalarLiteral};
+use shape_strides::Shape;
 use std::alloc::Global;
-
-/// The array of an argument's name, or `None` for a literal. `UnknownName` if this name, or one in
-/// the index list, is not bound.
-pub fn argument_array<'a>(
-    bench: &'a Bench,
-    value: &Argument,
-) -> Result<Option<ArrayRef<'a>>, Refusal>
-    ensures { Knows bench.now.state (names_in_argument value.now)
-        (IsNamedBy bench.now.state value.now) result }
-{
-    match value {
-        Argument::Operand(operand) => {
-            let array = named_array(bench, &operand.name, operand.index.as_ref())?;
-            Ok(Some(array))
-        }
-        Argument::Literal(_) => Ok(None),
-    }
-}
-
-/// The items that a layout selects from the buffer of an array.
-pub fn items_of_view<'a>(array: &'a ArrayRef<'_>, view: &'a Layout) -> Items<'a>
-    requires inside { All (λ offset. offset + item_size array.now.descr.now
-        ≤ length array.now.block.now) (offsets view.now) }
-    ensures block { result.block.now ≡ array.now.block.now }
-    ensures layout { result.layout.now ≡ view.now }
-    ensures descr { result.descr.now ≡ array.now.descr.now }
-{
-    Items {
-        block: array.block,
-        layout: view,
-        descr: array.descr,
-    }
-}
-
-/// The part of an array that an operand selects.
-#[derive(Drop)]
-pub enum Part<'a> {
-    /// The whole array.
-    Whole(ArrayRef<'a>),
-    /// A view of it.
-    View(ArrayRef<'a>, Layout),
-    /// A copy of some of its items.
-    Copy(Owned),
-}
-
-impl Part<'_> {
-    /// The items of the part.
-    pub fn items(&self) -> Items<'_>
-        requires { (s : State) × (part : Array) × IsPart s self.now part }
-        ensures stands { (s : State) (part : Array) → IsPart s self.now part
-            → StandsFor s part result }
-        ensures lies { (s : State) (part : Array) → IsPart s self.now part
-            → LiesInBuffer s part (buffer_number self.now) result.layout.now }
-    {
-        match self {
-            Part::Whole(array) => items_of_view(array, array.layout),
-            Part::View(array, layout) => items_of_view(array, layout),
-            Part::Copy(copy) => copy.items(),
-        }
-    }
-
-    /// The number of the buffer that holds the items, unless they are a copy.
-    pub fn number(&self) -> Option<u64>
-        ensures { result ≡ buffer_number self.now }
-    {
-        match self {
-            Part::Whole(array) | Part::View(array, _) => Some(array.number),
-            Part::Copy(_) => None,
-        }
-    }
-}
-
-/// The part of an array that an operand selects. The refusals are those of its index list.
-pub fn operand_part<'a>(
-    alloc: Global,
-    bench: &Bench,
-    operand: &Operand,
-    array: ArrayRef<'a>,
-) -> Result<Part<'a>, Refusal>
-    requires bound { list_all (is_bound bench.now.state) (names_in_operand operand.now) ≡ true }
-    requires named { IsNamed bench.now.state operand.now.name array }
-    ensures { Meets (IsPart bench.now.state) result (operand_part bench.now.state operand.now) }
-{
-    let Some(index) = &operand.index else {
-        return Ok(Part::Whole(array));
-    };
-    let target = named_target(alloc, bench, &array, index.as_slice())?;
-    match target {
-        Target::View(layout) => Ok(Part::View(array, layout)),
-        Target::Plan(plan) => {
-            let copy = plan.gather_owned(alloc, array.block, array.descr)?;
-            Ok(Part::Copy(copy))
-        }
-    }
-}
 
 /// The type of the result of an operation on items of two types.
 pub fn result_scalar(operation: Operation, left: &Descr, right: &Descr) -> Result<Scalar, Refusal>

@@ -2,8 +2,8 @@
 ghost use Rattle.std.specs.Prelude.{◌≡◌, ◌≤◌, ◌*◌, true, map, Ok, IfSome};
 ghost use Rattle.bench_engine.specs.Clauses.{IsPermutation, item_from, item_size, can_cast, cast_item, offsets, count, max_bytes, Argument, State, LiteralArgument, View, OperandValues, argument_values, literal_values, operand_values, updated_items, changed_with, updated, IsGiven, Stands, HoldsItems, GoTogether, IsTargetIn, IsTargetOf, Writes, WritesIn, Meets};
 
-use crate::operate::{items_of_view, result_scalar, work, work_literal};
-use crate::write::Given;
+use crate::operands::{Given, items_of_view};
+use crate::operate::{result_scalar, work, work_literal};
 use arrays::Owned;
 use elem_descr::{Descr, Refusal};
 use elementwise::{Items, keeps_items, same_kind, scalar_of};

@@ -1,17 +1,17 @@
 //! `set X[ix] = Z` and `upd X[ix] OP Z`: write to items of an array.
-ghost use Rattle.std.specs.Prelude.{◌≡◌, ◌≤◌, ◌*◌, true, Some, ◌++◌, ◌∷◌};
-ghost use Rattle.bench_engine.specs.Clauses.{list_all, item_size, count, max_bytes, max_items, is_bound, State, Argument, Supplies, argument_items, names_in_argument, new_items, write_outcome, write_reply, Fitted, IsGiven, GivesGiven, IsNamedBy, names_in_index, CarriesOut, Meets, IsTargetIn, Prepares, WritesIn};
+ghost use Rattle.std.specs.Prelude.{◌≡◌, ◌≤◌, ◌*◌, Some, ◌++◌, ◌∷◌};
+ghost use Rattle.bench_engine.specs.Clauses.{list_all, item_size, count, max_bytes, max_items, is_bound, State, Argument, Supplies, argument_items, names_in_argument, new_items, write_outcome, write_reply, Fitted, IsGiven, names_in_index, CarriesOut, Meets, IsTargetIn, Prepares, WritesIn};
 
 use crate::create::item_of;
 use crate::index_list::{named_array, named_target};
-use crate::operate::{Part, argument_array, operand_part};
+use crate::operands::{Given, argument_array, given_by};
 use crate::reply_text::ReplyText;
 use crate::update::{Writing, updated};
 use elem_descr::{Descr, Name, Refusal};
 use elementwise::Items;
 use itoa::Buffer;
 use name_store::{ArrayRef, Bench, Source, Target};
-use script_lang::{Argument, Index, Literal, Operation};
+use script_lang::{Argument, Index, Operation};
 use shape_strides::Shape;
 use std::alloc::Global;
 
@@ -43,34 +43,6 @@ fn fitted(
     };
     let owned = elementwise::cast(alloc, stretched, descr)?;
     Ok(Source::Block(owned))
-}
-
-/// The right side of `=` or of an operation: a literal, or the part that an operand selects.
-#[derive(Drop)]
-pub enum Given<'a> {
-    Literal(&'a Literal),
-    Items(Part<'a>),
-}
-
-/// The value of an argument, given the array of its name. The refusals are those of the operand's
-/// index list.
-pub fn given_by<'a>(
-    alloc: Global,
-    bench: &Bench,
-    value: &'a Argument,
-    array: Option<ArrayRef<'a>>,
-) -> Result<Given<'a>, Refusal>
-    requires bound { list_all (is_bound bench.now.state) (names_in_argument value.now) ≡ true }
-    requires named { IsNamedBy bench.now.state value.now array }
-    ensures { GivesGiven bench.now.state value.now result }
-{
-    match value {
-        Argument::Literal(literal) => Ok(Given::Literal(literal)),
-        Argument::Operand(operand) => {
-            let part = operand_part(alloc, bench, operand, array.unwrap())?;
-            Ok(Given::Items(part))
-        }
-    }
 }
 
 /// The items to write, one for each index of a shape: those of an operand, stretched to the shape

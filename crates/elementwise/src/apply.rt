@@ -1,17 +1,19 @@
 //! Operations on all items of arrays: operands are cast, stretched and combined.
-ghost use Rattle.std.specs.Prelude.{IfOk, IfSome, IsTrue, map, true, ◌≡◌, ◌≤◌};
-ghost use Rattle.elementwise.specs.Clauses.{GivesArray, can_cast, cast_item, binary_item, binary_result, pairwise, unary_item, unary_result, AreAlike, item_from, item_size, items, offsets, AreCastable, IsCombined, items_stretched};
+ghost use Rattle.std.specs.Prelude.{IfOk, IfSome, IsTrue, map, ◌≡◌};
+ghost use Rattle.elementwise.specs.Clauses.{GivesArray, cast_item, binary_item, binary_result, pairwise, unary_item, unary_result, AreAlike, item_from, items, offsets, AreCastable, IsCombined, items_stretched};
 
 use crate::castable::keeps_items;
-use crate::casts::cast_items;
-use crate::chunks::{InRuns, MANY_ITEMS, make_by_chunks};
-use crate::operands::{Broadcast, FEW, made, read_as};
-use crate::pairing::{Pairing, Work};
+use crate::chunks::{InRuns, make_by_chunks};
+use crate::held::Held;
+use crate::operands::{Broadcast, made, read_as};
+use crate::operations::Work;
+use crate::pairing::Pairing;
 use crate::promotion::{promote, promote_one, scalar_of};
 use crate::row_pairs::Operands;
-use arrays::{Items, Owned, copy, goes_by_columns};
+use crate::tuning::MANY_ITEMS;
+use arrays::{Items, Owned};
 use broadcasting::{common, stretched_to};
-use elem_descr::{BinOp, Descr, MemoryOrder, Refusal, UnOp};
+use elem_descr::{BinOp, Descr, Refusal, UnOp};
 use shape_strides::Shape;
 use std::alloc::{AllocError, Global};
 
@@ -63,65 +65,6 @@ pub fn apply1(alloc: Global, op: UnOp, operand: Items<'_>) -> Result<Owned, Refu
         shape: &operand.layout.shape,
     };
     Ok(make_cast(alloc, &pairing, both)?)
-}
-
-/// Items in place, or in a block of their own.
-#[derive(Drop)]
-pub(crate) enum Held<'a> {
-    Kept(Items<'a>),
-    Made(Owned),
-}
-
-impl<'a> Held<'a> {
-    ghost use Rattle.elementwise.specs.Clauses.{items, held_items, held_descr, held_shape};
-
-    /// Items cast to a small element type. If the cast keeps their bytes, they stay in place.
-    pub(crate) fn of(alloc: Global, from: Items<'a>, to: &'a Descr) -> Result<Held<'a>, AllocError>
-        requires can { can_cast from.descr.now to.now ≡ true }
-        requires small { item_size to.now ≤ 8 }
-        ensures descr { IfOk result (λ h. held_descr h ≡ to.now) }
-        ensures shape { IfOk result (λ h. held_shape h ≡ from.entry.layout.now.shape) }
-        ensures items { IfOk result
-            (λ h. held_items h ≡ map (cast_item from.entry.descr.now to.now) (items from.entry)) }
-    {
-        if keeps_items(from.block, from.descr, to) {
-            return Ok(Held::Kept(Items {
-                block: from.block,
-                layout: from.layout,
-                descr: to,
-            }));
-        }
-        let _items = from.layout.shape.items();
-        let made = cast_items(alloc, from, to)?;
-        Ok(Held::Made(made))
-    }
-
-    /// The items in place or, if there are many and they are stored by columns, a copy in C order,
-    /// so that a single loop reads them all. Without memory for the copy, they stay in place.
-    pub(crate) fn near(alloc: Global, from: Items<'a>) -> Held<'a>
-        ensures descr { held_descr result ≡ from.entry.descr.now }
-        ensures shape { held_shape result ≡ from.entry.layout.now.shape }
-        ensures items { held_items result ≡ items from.entry }
-    {
-        if from.layout.shape.items() < FEW || !goes_by_columns(from.layout) {
-            return Held::Kept(from);
-        }
-        match copy(alloc, from.block, from.layout, from.descr, MemoryOrder::C) {
-            Ok(copied) => Held::Made(copied),
-            Err(_) => Held::Kept(from),
-        }
-    }
-
-    pub(crate) fn items(&self) -> Items<'_>
-        ensures descr { result.descr.now ≡ held_descr self.now }
-        ensures shape { result.layout.now.shape ≡ held_shape self.now }
-        ensures items { items result ≡ held_items self.now }
-    {
-        match self {
-            Held::Kept(items) => *items,
-            Held::Made(owned) => owned.items(),
-        }
-    }
 }
 
 /// The results for the items of two arrays, each of which is cast as a whole and then stretched.

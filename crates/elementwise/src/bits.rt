@@ -1,5 +1,6 @@
 //! Operations on numbers that are given by their lowest 64 bits; all higher bits repeat the sign.
-ghost use Rattle.std.specs.Prelude.{◌≡◌, ◌≤◌, Bool, int_lt};
+//! Also a note for the prover that bytes are below 256.
+ghost use Rattle.std.specs.Prelude.{◌≡◌, ◌<◌, ◌≤◌, Bool, int_lt, slice_index_or, ℕ};
 ghost use Rattle.elementwise.specs.Clauses.{Scalar, integer, low_bits, exact, floor_quotient, shifted_left, shifted_right, division_op, is_negative, magnitude_of};
 
 /// Whether the number is negative.
@@ -103,4 +104,11 @@ pub(crate) fn is_below(left_signed: bool, left: u64, right_signed: bool, right: 
     } else {
         below
     }
+}
+
+/// Tells the prover that the elements of a `u8` slice are below 256. Does nothing.
+pub(crate) fn note_slice(bytes: &[u8])
+    ensures { (k : ℕ) → slice_index_or bytes.now k 0 < 256 }
+{
+    let _len = bytes.len();
 }

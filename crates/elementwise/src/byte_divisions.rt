@@ -2,9 +2,8 @@
 ghost use Rattle.std.specs.Prelude.{false, get_or, ℕ, ◌*◌, ◌+◌, ◌-◌, ◌/◌, ◌<◌, ◌^◌, ◌≡◌, ◌≤◌};
 ghost use Rattle.elementwise.specs.Clauses.{binary, floor_quotient, Little, integer, low_bits, division_op, number_pair, pair_count, AreMade};
 
-use crate::bits;
-use crate::operands::note_slice;
-use crate::pairing::Pairs;
+use crate::bits::{self, note_slice};
+use crate::row_pairs::Pairs;
 use machine_numbers::{LowFirst, Number, Ordered};
 use raw_block::BlockBuilder;
 

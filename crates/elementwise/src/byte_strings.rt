@@ -2,7 +2,7 @@
 ghost use Rattle.std.specs.Prelude.{All, IfOk, drop, length, take, ◌+◌, ◌≡◌, ◌≤◌};
 ghost use Rattle.elementwise.specs.Clauses.{ScalarDescr, Bytes, big_number, item_at, offsets, without_nuls, CanCut, IsWordLen};
 
-use crate::operands::without_repeats;
+use crate::layouts::without_repeats;
 use arrays::Items;
 use broadcasting::repeats;
 use elem_descr::BytesLen;

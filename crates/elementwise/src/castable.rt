@@ -1,9 +1,8 @@
-//! Which casts exist, and which of them keep the bytes of items.
-ghost use Rattle.std.specs.Prelude.{IsTrue, length, ℕ, ◌+◌, ◌↔◌, ◌≡◌, ◌≤◌};
-ghost use Rattle.elementwise.specs.Clauses.{can_cast, can_cast_fields, can_cast_scalar, cast_item, AreAlike, item_from, item_size, listed, can_cast_field, list_all};
+//! Which casts exist, and which of them keep the bytes of items. Also the leaves of element types.
+ghost use Rattle.std.specs.Prelude.{IsTrue, length, ℕ, ◌+◌, ◌<◌, ◌↔◌, ◌≡◌, ◌≤◌};
+ghost use Rattle.elementwise.specs.Clauses.{can_cast, can_cast_fields, can_cast_scalar, cast_item, AreAlike, item_from, item_size, leaf_at, leaves_of, listed, size, can_cast_field, list_all};
 
-use crate::casts::leaf_of;
-use crate::operands::note_slice;
+use crate::bits::note_slice;
 use elem_descr::{Descr, Field, Leaf, Scalar};
 use machine_numbers::is_text;
 use raw_block::RawBlock;
@@ -61,6 +60,16 @@ pub fn can_cast(from: &Descr, to: &Descr) -> bool
         (Descr::Scalar(from), Descr::Record(to)) => can_cast_to_all(from, to.leaves()),
         _ => can_cast_field(from, to),
     }
+}
+
+/// The leaf with this number.
+pub(crate) fn leaf_of(descr: &Descr, k: usize) -> Leaf
+    requires { k < length (leaves_of descr.now) }
+    ensures value { result ≡ leaf_at descr.now k }
+    ensures within { result.at + size result.scalar ≤ item_size descr.now }
+{
+    let (scalar, at) = descr.leaf_at(k);
+    Leaf { scalar, at }
 }
 
 /// Whether items of two element types are stored in the same way.

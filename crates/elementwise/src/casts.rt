@@ -1,35 +1,21 @@
 //! Casts: the items of an array as items of another element type.
-ghost use Rattle.std.specs.Prelude.{IfErr, IfOk, IsTrue, if◌then◌else◌, length, map, nat_le, true, ◌*◌, ◌+◌, ◌<◌, ◌≡◌, ◌≤◌};
-ghost use Rattle.elementwise.specs.Clauses.{ScalarDescr, can_cast, cast_item, C, IsNumber, NoSuchCast, OutOfMemory, TooLarge, count, encode_item, item_from, item_size, leaf_at, leaves_of, max_bytes, offsets, offsets_in, owned_items, place, size, HasSource, IsCut, cast_items, run_part, source, AreCast, AreItems, IsCast, flat_map};
+ghost use Rattle.std.specs.Prelude.{IfErr, IfOk, IsTrue, if◌then◌else◌, map, nat_le, true, ◌*◌, ◌+◌, ◌≡◌, ◌≤◌};
+ghost use Rattle.elementwise.specs.Clauses.{ScalarDescr, can_cast, cast_item, C, IsNumber, NoSuchCast, OutOfMemory, TooLarge, count, encode_item, held_descr, held_items, held_shape, item_from, item_size, items, max_bytes, offsets, offsets_in, owned_items, place, size, HasSource, IsCut, cast_items, run_part, source, AreCast, AreItems, IsCast, flat_map};
 
-use crate::apply::Held;
-use crate::castable::can_cast;
+use crate::castable::{can_cast, keeps_items, leaf_of};
+use crate::held::Held;
 use crate::leaf_casts::{Column, Places};
 use crate::operands::made;
-use crate::pairing::{Pairing, Work};
+use crate::operations::Work;
+use crate::pairing::Pairing;
 use crate::row_pairs::Operands;
+use crate::tuning::{BAND, FEWEST_IN_BAND};
 use arrays::{Items, Owned, gather};
 use elem_descr::{Descr, Leaf, MemoryOrder, Refusal, Scalar};
 use machine_numbers::{Side, is_text, place};
 use raw_block::{BlockBuilder, RawBlock};
 use shape_strides::{MAX_BYTES, Run};
 use std::alloc::{AllocError, Global};
-
-/// The size of a band, so that it stays in the first-level cache.
-const NEAR: usize = 8192;
-
-/// The fewest items of a band.
-const FEW: usize = 32;
-
-/// The leaf with this number.
-pub(crate) fn leaf_of(descr: &Descr, k: usize) -> Leaf
-    requires { k < length (leaves_of descr.now) }
-    ensures value { result ≡ leaf_at descr.now k }
-    ensures within { result.at + size result.scalar ≤ item_size descr.now }
-{
-    let (scalar, at) = descr.leaf_at(k);
-    Leaf { scalar, at }
-}
 
 /// The leaf that is cast to the one with this number.
 fn source_of(descr: &Descr, k: usize) -> Leaf
@@ -140,7 +126,7 @@ fn cast_run(
 {
     let count = from.run.count;
     let size = to.size();
-    let most = FEW.max(NEAR / size);
+    let most = FEWEST_IN_BAND.max(BAND / size);
     let mut cast = BlockBuilder::try_new(alloc, count * size)?;
     let mut done = 0;
     while done < count {
@@ -216,6 +202,29 @@ pub(crate) fn cast_items(alloc: Global, from: Items<'_>, to: &Descr) -> Result<O
             let descr = Descr::try_copy(alloc, to)?;
             Owned::over(alloc, descr, &from.layout.shape, MemoryOrder::C, cast)
         }
+    }
+}
+
+impl<'a> Held<'a> {
+    /// Items cast to a small element type. If the cast keeps their bytes, they stay in place.
+    pub(crate) fn of(alloc: Global, from: Items<'a>, to: &'a Descr) -> Result<Held<'a>, AllocError>
+        requires can { can_cast from.descr.now to.now ≡ true }
+        requires small { item_size to.now ≤ 8 }
+        ensures descr { IfOk result (λ h. held_descr h ≡ to.now) }
+        ensures shape { IfOk result (λ h. held_shape h ≡ from.entry.layout.now.shape) }
+        ensures items { IfOk result
+            (λ h. held_items h ≡ map (cast_item from.entry.descr.now to.now) (items from.entry)) }
+    {
+        if keeps_items(from.block, from.descr, to) {
+            return Ok(Held::Kept(Items {
+                block: from.block,
+                layout: from.layout,
+                descr: to,
+            }));
+        }
+        let _items = from.layout.shape.items();
+        let made = cast_items(alloc, from, to)?;
+        Ok(Held::Made(made))
     }
 }
 

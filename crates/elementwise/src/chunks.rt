@@ -7,22 +7,17 @@ ghost use Rattle.elementwise.specs.inside.LeafCasts.{run_part};
 ghost use Rattle.elementwise.specs.inside.Added.{AreAdded};
 ghost use Rattle.elementwise.specs.inside.Works.{target_of};
 
-use crate::apply::Held;
+use crate::held::Held;
 use crate::operands::Broadcast;
 use crate::pairing::Pairing;
 use crate::row_pairs::Operands;
+use crate::tuning::CHUNK;
 use arrays::{Items, Owned};
 use elem_descr::{Descr, MemoryOrder};
 use machine_numbers::place;
 use raw_block::BlockBuilder;
 use shape_strides::{Layout, Run, Shape, Strides};
 use std::alloc::{AllocError, Global};
-
-/// Fewer items than this are cast as a whole: the cast items stay in the cache.
-pub(crate) const MANY_ITEMS: usize = 262_144;
-
-/// How many items of each operand are cast at a time.
-const CHUNK: usize = 16_384;
 
 /// Operands of the shape of the results, with the items of each in a single run.
 #[derive(Clone, Copy, Drop)]

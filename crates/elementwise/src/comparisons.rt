@@ -1,11 +1,15 @@
 //! Comparisons of all items of arrays.
-ghost use Rattle.std.specs.Prelude.{IfOk, length, ◌≡◌, ◌≤◌};
-ghost use Rattle.elementwise.specs.Clauses.{GivesArray, ScalarDescr, compared_item, compared_result, pairwise, Bytes, IsNumber, decode, max_bytes, size, AreCompared, AreComparedWith, AreComparable, IsComparing, items_stretched};
+ghost use Rattle.std.specs.Prelude.{IfOk, IsTrue, length, ◌≡◌, ◌≤◌};
+ghost use Rattle.elementwise.specs.Clauses.{GivesArray, BoolScalar, ScalarDescr, can_stretch, compared_item, compared_result, pairwise, Bytes, IsNumber, decode, max_bytes, size, AreCompared, AreComparedWith, AreComparable, IsComparing, IsMade, items_stretched, stretched_items};
 
 use crate::apply::make_cast;
+use crate::bits::note_slice;
 use crate::byte_strings::trimmed_in;
-use crate::operands::{Broadcast, made, note_slice, read_as, spread, without_repeats};
-use crate::pairing::{Pairing, Work};
+use crate::casts::cast_numbers;
+use crate::layouts::without_repeats;
+use crate::operands::{Broadcast, made, read_as};
+use crate::operations::Work;
+use crate::pairing::Pairing;
 use crate::promotion::{common_type, compared_type, scalar_of};
 use crate::row_pairs::Operands;
 use arrays::{Items, Owned};
@@ -107,6 +111,25 @@ fn compare_scalars(
         },
         _ => unreachable!(),
     }
+}
+
+/// The bools of an array that is stretched to a shape, in a block of their own.
+fn spread(alloc: Global, made: &Owned, shape: &Shape) -> Result<Owned, AllocError>
+    requires bools { made.now.descr ≡ ScalarDescr BoolScalar }
+    requires stretches { IsTrue (can_stretch made.now.layout.shape shape.now) }
+    ensures { IfOk result
+        (IsMade (ScalarDescr BoolScalar) shape.now
+        (stretched_items made.now.descr made.now.block made.now.layout shape.now)) }
+{
+    let _items = shape.items();
+    let items = made.items();
+    let wide = stretched_to(alloc, items.layout, shape)?;
+    let bools = Items {
+        block: items.block,
+        layout: &wide,
+        descr: items.descr,
+    };
+    cast_numbers(alloc, bools, &Scalar::Bool, &Scalar::Bool)
 }
 
 /// A comparison of numbers, or of byte strings. Pairs of items that repeat are compared once.

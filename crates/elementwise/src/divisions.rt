@@ -7,22 +7,14 @@ ghost use Rattle.elementwise.specs.Words.{Little, Scalar, integer, is_bool, low_
 ghost use Rattle.elementwise.specs.inside.PairPasses.{division_op, number_pair};
 ghost use Rattle.elementwise.specs.inside.Sides.{pair_count, AreMade};
 
-use crate::bits::{is_negative, magnitude};
+use crate::bits::{self, is_negative, magnitude, note_slice};
 use crate::byte_divisions::push_divided_bytes;
-use crate::kernels::Numbers;
-use crate::operands::note_slice;
-use crate::operations::Dividing;
-use crate::pairing::Pairs;
-use crate::row_pairs::Pass;
+use crate::kernels::{Kernel, Numbers};
+use crate::row_pairs::{Pairs, Pass};
+use crate::tuning::{FEW_PAIRS, MANY_BYTES};
 use machine_numbers::{LowFirst, Number, Ordered};
 use raw_block::BlockBuilder;
 use std::marker::PhantomData;
-
-/// Fewer pairs than this are divided one by one.
-const FEW: usize = 4;
-
-/// Fewer pairs of bytes than this are not worth a table of reciprocals.
-const MANY_BYTES: usize = 2048;
 
 /// The divisor of all pairs, if there are many pairs with a single divisor other than 0.
 fn divisor_of<N: Number, O: Ordered>(pairs: Pairs<'_, '_>) -> Option<Divisor>
@@ -36,7 +28,7 @@ fn divisor_of<N: Number, O: Ordered>(pairs: Pairs<'_, '_>) -> Option<Divisor>
         → number_of_side (N.scalar O.order) pairs.entry.right k ≡ integer N.SIGNED 8 d.bits) }
 {
     note_slice(pairs.right.bytes);
-    if pairs.right.run.step != 0 || pairs.right.run.count < FEW {
+    if pairs.right.run.step != 0 || pairs.right.run.count < FEW_PAIRS {
         return None;
     }
     let bits = pairs.right.number::<N, O>(0).bits();
@@ -78,6 +70,21 @@ fn push_divided<const LEAVES: bool, N: Number, O: Ordered>(
         N::of_bits(bits).push::<LowFirst>(&mut block);
     }
     block
+}
+
+/// Computes quotients or remainders.
+struct Dividing<const LEAVES: bool>;
+
+impl<const LEAVES: bool, N: Number> Kernel<N, N, N> for Dividing<LEAVES> {
+    ghost makes = { binary (division_op LEAVES) (N.scalar Little) };
+
+    #[inline(always)]
+    fn make(left: N, right: N) -> N {
+        let first = left.bits();
+        let second = right.bits();
+        let quotient = bits::quotient(N::SIGNED, first, second);
+        N::of_bits(bits::division(LEAVES, first, second, quotient))
+    }
 }
 
 /// Quotients or remainders of numbers in a byte order.

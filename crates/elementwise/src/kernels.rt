@@ -5,8 +5,7 @@ ghost use Rattle.elementwise.specs.inside.PairPasses.{number_pair};
 ghost use Rattle.elementwise.specs.inside.Operands.{pairs_of, AreAllMade};
 ghost use Rattle.elementwise.specs.inside.Sides.{pair_count, made_of, AreMade, AreMadeTo};
 
-use crate::pairing::Pairs;
-use crate::row_pairs::{Operands, Pass};
+use crate::row_pairs::{Operands, Pairs, Pass};
 use machine_numbers::{Number, Ordered};
 use raw_block::BlockBuilder;
 use std::marker::PhantomData;

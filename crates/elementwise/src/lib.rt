@@ -13,8 +13,10 @@ mod chunks;
 mod comparison_kernels;
 mod comparisons;
 mod divisions;
+mod held;
 mod integer_comparisons;
 mod kernels;
+mod layouts;
 mod leaf_casts;
 mod operands;
 mod operations;
@@ -22,6 +24,7 @@ mod pairing;
 mod promotion;
 mod row_pairs;
 mod text_comparisons;
+mod tuning;
 
 pub use apply::{apply1, apply2};
 pub use arrays::Items;

@@ -1,17 +1,15 @@
 //! The operands of operations, and arrays of the results for their pairs.
-ghost use Rattle.std.specs.Prelude.{IfOk, IfSome, IsTrue, slice_index_or, ℕ, ◌<◌, ◌≡◌};
-ghost use Rattle.elementwise.specs.Words.{ScalarDescr, BoolScalar, can_stretch, little};
-ghost use Rattle.elementwise.specs.Results.{stretched_items};
-ghost use Rattle.elementwise.specs.inside.Made.{IsMade, IsTurned};
+ghost use Rattle.std.specs.Prelude.{IfOk, IfSome, IsTrue, ◌≡◌};
+ghost use Rattle.elementwise.specs.Words.{can_stretch, little};
+ghost use Rattle.elementwise.specs.inside.Made.{IsTurned};
 ghost use Rattle.elementwise.specs.inside.Operands.{AreMatched, IsPaired};
-ghost use Rattle.elementwise.specs.inside.Shrunk.{IsShrunk};
 
-use crate::apply::Held;
-use crate::casts::cast_numbers;
+use crate::held::Held;
+use crate::layouts::Layouts;
 use crate::pairing::Pairing;
 use crate::row_pairs::Operands;
+use crate::tuning::{ADJACENT, FEW_ITEMS};
 use arrays::{Items, Owned, gather, goes_by_columns};
-use broadcasting::{shrink, shrunk_shape, stretched_to};
 use elem_descr::{Descr, MemoryOrder, Scalar};
 use machine_numbers::little;
 use raw_block::BlockBuilder;
@@ -28,20 +26,6 @@ pub(crate) struct Broadcast<'a> {
     pub(crate) ghost second: { IsTrue (can_stretch right.layout.now.shape shape.now) },
 }
 
-/// The layouts of two operands.
-#[derive(Drop)]
-pub(crate) struct Layouts {
-    pub(crate) first: Layout,
-    pub(crate) second: Layout,
-}
-
-/// Tells the prover that the elements of a `u8` slice are below 256. Does nothing.
-pub(crate) fn note_slice(bytes: &[u8])
-    ensures { (k : ℕ) → slice_index_or bytes.now k 0 < 256 }
-{
-    let _len = bytes.len();
-}
-
 /// The scalar in which two operands are read: a little-endian one, or the same in the byte order of
 /// the larger operand, so that this operand is read in place.
 pub(crate) fn read_as(scalar: &Scalar, left: Items<'_>, right: Items<'_>) -> Scalar
@@ -56,16 +40,10 @@ pub(crate) fn read_as(scalar: &Scalar, left: Items<'_>, right: Items<'_>) -> Sca
     }
 }
 
-/// Operands with fewer items than this are combined in the order of their axes.
-pub(crate) const FEW: usize = 4096;
-
-/// Items that are closer to each other than this, or at one place, are as near as adjacent ones.
-const NEAR: usize = 8;
-
 /// The distance between the items of a row.
 fn step(layout: &Layout) -> usize {
     let Rows { starts: _, along } = layout.rows();
-    along.stride.unsigned_abs().max(NEAR)
+    along.stride.unsigned_abs().max(ADJACENT)
 }
 
 /// Both layouts with their axes reversed, if that brings successive items closer together and
@@ -155,48 +133,8 @@ pub(crate) fn made(
     requires { AreMatched pairing.now operands }
     ensures { IfOk result (IsPaired pairing.now operands.entry) }
 {
-    if operands.left.layout.shape.items() < FEW || operands.as_row().is_some() {
+    if operands.left.layout.shape.items() < FEW_ITEMS || operands.as_row().is_some() {
         return made_by_rows(alloc, pairing, operands);
     }
     made_of_many(alloc, pairing, operands)
-}
-
-/// Two layouts that stretch to a shape, with length 1 on each axis of it along which the items of
-/// both repeat. They have one shape.
-pub(crate) fn without_repeats(
-    alloc: Global,
-    left: &Layout,
-    right: &Layout,
-    shape: &Shape,
-) -> Result<Layouts, AllocError>
-    requires stretches { IsTrue (can_stretch left.now.shape shape.now) }
-    requires also { IsTrue (can_stretch right.now.shape shape.now) }
-    ensures first { IfOk result (λ s. IsShrunk s.first left.now s.first.shape shape.now) }
-    ensures second { IfOk result (λ s. IsShrunk s.second right.now s.first.shape shape.now) }
-{
-    let wide = stretched_to(alloc, left, shape)?;
-    let other = stretched_to(alloc, right, shape)?;
-    let shape = shrunk_shape(alloc, &wide, &other)?;
-    let first = shrink(alloc, &wide, &shape)?;
-    let second = shrink(alloc, &other, &shape)?;
-    Ok(Layouts { first, second })
-}
-
-/// The bools of an array that is stretched to a shape, in a block of their own.
-pub(crate) fn spread(alloc: Global, made: &Owned, shape: &Shape) -> Result<Owned, AllocError>
-    requires bools { made.now.descr ≡ ScalarDescr BoolScalar }
-    requires stretches { IsTrue (can_stretch made.now.layout.shape shape.now) }
-    ensures { IfOk result
-        (IsMade (ScalarDescr BoolScalar) shape.now
-        (stretched_items made.now.descr made.now.block made.now.layout shape.now)) }
-{
-    let _items = shape.items();
-    let items = made.items();
-    let wide = stretched_to(alloc, items.layout, shape)?;
-    let bools = Items {
-        block: items.block,
-        layout: &wide,
-        descr: items.descr,
-    };
-    cast_numbers(alloc, bools, &Scalar::Bool, &Scalar::Bool)
 }

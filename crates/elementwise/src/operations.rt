@@ -1,16 +1,15 @@
 //! Operations on operands of one number type, and the kernels that do them. Each operation works on
 //! the lowest 64 bits, of which a number keeps as many as its type has.
 ghost use Rattle.std.specs.Prelude.{◌≡◌, ◌*◌, ◌≤◌, true, ◌-ℤ◌};
-ghost use Rattle.elementwise.specs.Clauses.{Little, size, integer, wrap, item_size, Add, Subtract, Multiply, And, Or, Xor, ShiftLeft, ShiftRight, is_bool, binary, serves_bools, division_op, number_pair, pairs_of, AreAllMade, target, meaning, IsWork};
+ghost use Rattle.elementwise.specs.Clauses.{Little, size, integer, wrap, item_size, Add, Subtract, Multiply, And, Or, Xor, ShiftLeft, ShiftRight, is_bool, binary, number_pair, pairs_of, AreAllMade, target, meaning, IsWork};
 
 use crate::bits;
 use crate::cast_kernels::cast;
 use crate::comparison_kernels::compare;
 use crate::divisions::Divisions;
 use crate::kernels::{Kernel, append};
-use crate::pairing::Work;
 use crate::row_pairs::Operands;
-use elem_descr::{BinOp, Scalar, UnOp};
+use elem_descr::{BinOp, Comparison, Scalar, UnOp};
 use machine_numbers::{LowFirst, Number, NumberTask, Ordered};
 use raw_block::BlockBuilder;
 use std::marker::PhantomData;
@@ -45,21 +44,6 @@ impl<N: Number> Kernel<N, N, N> for Multiplying {
     #[inline(always)]
     fn make(left: N, right: N) -> N {
         N::of_bits(left.bits().wrapping_mul(right.bits()))
-    }
-}
-
-/// Computes quotients or remainders.
-pub(crate) struct Dividing<const LEAVES: bool>;
-
-impl<const LEAVES: bool, N: Number> Kernel<N, N, N> for Dividing<LEAVES> {
-    ghost makes = { binary (division_op LEAVES) (N.scalar Little) };
-
-    #[inline(always)]
-    fn make(left: N, right: N) -> N {
-        let first = left.bits();
-        let second = right.bits();
-        let quotient = bits::quotient(N::SIGNED, first, second);
-        N::of_bits(bits::division(LEAVES, first, second, quotient))
     }
 }
 
@@ -130,6 +114,19 @@ impl<const BITS: u64, N: Number> Kernel<N, N, N> for SubtractingFrom<BITS> {
     }
 }
 
+/// A function of two numbers of one type.
+#[derive(Clone, Copy)]
+pub(crate) enum Work {
+    /// The result of an operation on them.
+    Combine(BinOp),
+    /// The result of an operation on the second of them.
+    Change(UnOp),
+    /// The result of a comparison of them.
+    Compare(Comparison),
+    /// The first of them, cast to another scalar of numbers.
+    Cast(Scalar),
+}
+
 /// An operation on operands of one scalar, which appends its results.
 pub(crate) struct Working<'a, 'b> {
     pub(crate) work: Work,
@@ -188,19 +185,5 @@ impl<'a, 'b> NumberTask for Working<'a, 'b> {
             Work::Compare(comparison) => compare::<N, N, O>(comparison, block, operands),
             Work::Cast(to) => cast::<N, O>(&to, block, operands),
         }
-    }
-}
-
-/// Whether an operation accepts two bools. True division is refused elsewhere, for all types.
-pub(crate) fn serves_bools(op: BinOp) -> bool
-    ensures { result ≡ serves_bools op }
-{
-    match op {
-        BinOp::Subtract
-        | BinOp::FloorDivide
-        | BinOp::Modulo
-        | BinOp::ShiftLeft
-        | BinOp::ShiftRight => false,
-        _ => true,
     }
 }

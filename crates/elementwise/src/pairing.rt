@@ -4,26 +4,13 @@ ghost use Rattle.elementwise.specs.Words.{item_size, size};
 ghost use Rattle.elementwise.specs.inside.Operands.{AreAllMade, pairs_of};
 
 use crate::comparison_kernels::compare;
-use crate::operations::Working;
+use crate::operations::{Work, Working};
 use crate::promotion::integer_type;
 use crate::row_pairs::Operands;
 use crate::text_comparisons::push_texts;
-use elem_descr::{BinOp, BytesLen, Comparison, Scalar, UnOp};
-use machine_numbers::{LowFirst, Side, is_bool, little, on_number};
+use elem_descr::{BytesLen, Comparison, Scalar};
+use machine_numbers::{LowFirst, is_bool, little, on_number};
 use raw_block::BlockBuilder;
-
-/// A function of two numbers of one type.
-#[derive(Clone, Copy)]
-pub(crate) enum Work {
-    /// The result of an operation on them.
-    Combine(BinOp),
-    /// The result of an operation on the second of them.
-    Change(UnOp),
-    /// The result of a comparison of them.
-    Compare(Comparison),
-    /// The first of them, cast to another scalar of numbers.
-    Cast(Scalar),
-}
 
 /// A function of pairs of values of two scalars.
 #[derive(Clone, Copy)]
@@ -114,32 +101,6 @@ impl Pairing {
                 left_signed: false,
             } => compare::<u64, i64, LowFirst>(*comparison, block, operands),
             Pairing::Texts { comparison, .. } => push_texts(*comparison, block, operands),
-        }
-    }
-}
-
-/// Two runs with the same number of items.
-#[derive(Clone, Copy, Drop)]
-pub(crate) struct Pairs<'a, 'b> {
-    pub(crate) left: Side<'a>,
-    pub(crate) right: Side<'b>,
-    pub(crate) ghost even: { left.run.count ≡ right.run.count },
-}
-
-impl<'a, 'b> Pairs<'a, 'b> {
-    ghost use Rattle.machine_numbers.specs.Sides.{AreSame};
-
-    /// The same runs, with steps that the compiler knows.
-    #[inline(always)]
-    pub(crate) fn with_steps(self, left: isize, right: isize) -> Pairs<'a, 'b>
-        requires left { self.left.run.step ≡ left }
-        requires right { self.right.run.step ≡ right }
-        ensures left { AreSame result.left self.entry.left }
-        ensures right { AreSame result.right self.entry.right }
-    {
-        Pairs {
-            left: self.left.with_step(left),
-            right: self.right.with_step(right),
         }
     }
 }

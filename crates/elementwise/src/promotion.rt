@@ -2,7 +2,6 @@
 ghost use Rattle.std.specs.Prelude.{◌≡◌, ◌≤◌, ◌&&◌, ◌||◌};
 ghost use Rattle.elementwise.specs.Clauses.{Little, Eight, Int, Answers, is_bool, is_text, is_signed, little, rank_of_kind, same_kind, integer_type, mixed_type, common_type, promote, compared_type, literal_type, promote_one, serves_bools, scalar_of};
 
-use crate::operations::serves_bools;
 use elem_descr::{BinOp, Descr, Order, Refusal, Scalar, UnOp, Width};
 use machine_numbers::{is_bool, is_signed, is_text, little};
 
@@ -74,6 +73,20 @@ pub(crate) fn common_type(left: &Scalar, right: &Scalar) -> Result<Scalar, Refus
         (false, true) => mixed_type(first, second),
         (true, false) => mixed_type(second, first),
         (signed, _) => Ok(integer_type(signed, first.max(second))),
+    }
+}
+
+/// Whether an operation accepts two bools. True division is refused elsewhere, for all types.
+fn serves_bools(op: BinOp) -> bool
+    ensures { result ≡ serves_bools op }
+{
+    match op {
+        BinOp::Subtract
+        | BinOp::FloorDivide
+        | BinOp::Modulo
+        | BinOp::ShiftLeft
+        | BinOp::ShiftRight => false,
+        _ => true,
     }
 }
 

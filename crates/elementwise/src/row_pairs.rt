@@ -1,15 +1,40 @@
-//! Combines the items of two operands, row by row.
+//! Pairs of runs, and two operands whose items are combined row by row.
 ghost use Rattle.elementwise.specs.Results.{pairwise};
 ghost use Rattle.std.specs.Prelude.{IfSome, List, ℕ, ◌*◌, ◌≡◌, ◌≤◌};
 ghost use Rattle.elementwise.specs.Words.{item_size, offsets, run_offsets, concat};
 ghost use Rattle.elementwise.specs.inside.PairPasses.{pair_from};
 ghost use Rattle.elementwise.specs.inside.Added.{AreAdded};
 
-use crate::pairing::Pairs;
 use arrays::Items;
 use machine_numbers::Side;
 use raw_block::BlockBuilder;
 use shape_strides::{RunPair, RunPairs};
+
+/// Two runs with the same number of items.
+#[derive(Clone, Copy, Drop)]
+pub(crate) struct Pairs<'a, 'b> {
+    pub(crate) left: Side<'a>,
+    pub(crate) right: Side<'b>,
+    pub(crate) ghost even: { left.run.count ≡ right.run.count },
+}
+
+impl<'a, 'b> Pairs<'a, 'b> {
+    ghost use Rattle.machine_numbers.specs.Sides.{AreSame};
+
+    /// The same runs, with steps that the compiler knows.
+    #[inline(always)]
+    pub(crate) fn with_steps(self, left: isize, right: isize) -> Pairs<'a, 'b>
+        requires left { self.left.run.step ≡ left }
+        requires right { self.right.run.step ≡ right }
+        ensures left { AreSame result.left self.entry.left }
+        ensures right { AreSame result.right self.entry.right }
+    {
+        Pairs {
+            left: self.left.with_step(left),
+            right: self.right.with_step(right),
+        }
+    }
+}
 
 /// Two operands of one shape.
 #[derive(Clone, Copy, Drop)]

@@ -4,11 +4,10 @@ ghost use Rattle.std.proofs.Common.{arith};
 ghost use Rattle.std.specs.Prelude.{length, ℕ, ◌*◌, ◌+◌, ◌^◌, ◌≡◌, ◌≤◌};
 ghost use Rattle.elementwise.specs.Clauses.{item_size, AreAllMade, pairs_of, text_pair, text_said, AreInOrder, IsWordLen};
 
+use crate::bits::note_slice;
 use crate::byte_strings::{shared_words, without_nuls, word_at};
 use crate::comparison_kernels::{compare, is_said};
-use crate::operands::note_slice;
-use crate::pairing::Pairs;
-use crate::row_pairs::{Operands, Pass};
+use crate::row_pairs::{Operands, Pairs, Pass};
 use elem_descr::Comparison;
 use machine_numbers::{HighFirst, LowFirst, Number};
 use raw_block::BlockBuilder;

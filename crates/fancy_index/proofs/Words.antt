@@ -13,8 +13,8 @@ pub use Rattle.fancy_index.specs.Words.{All-back, All-front, AlongAxis, ArePicks
 unfoldable pub use Rattle.fancy_index.specs.Words.{common_of_two, offsets, picked_view, shape_of, shape_picked, slice_indices, stepped}
 pub use Rattle.fancy_index.specs.declared.index_parts.IndexPart.{IndexPart}
 pub use Rattle.fancy_index.specs.declared.index_parts.IndexPart.TheVariants.{Axis as AxisPart, Between as BetweenPart, Points as PointsPart}
-pub use Rattle.fancy_index.specs.declared.index_parts.Kind.{Kind}
-pub use Rattle.fancy_index.specs.declared.index_parts.Kind.TheVariants.{Integers, Mask}
+pub use Rattle.fancy_index.specs.declared.kinds.Kind.{Kind}
+pub use Rattle.fancy_index.specs.declared.kinds.Kind.TheVariants.{Integers, Mask}
 pub use Rattle.fancy_index.specs.declared.masks.Bools.{Bools}
 pub use Rattle.fancy_index.specs.declared.masks.RunAt.{RunAt}
 pub use Rattle.fancy_index.specs.declared.masks.TheConstants.{COUNTS, PLACES}

@@ -1,8 +1,8 @@
 -- Arrays in an index list: which are masks, how many axes an item takes, and what is refused.
 use Rattle.std.specs.Prelude.{ℕ, ◌-◌, Bool, true, false, ℤ, List, [], ◌∷◌, take, drop, length, sum_by}
 use Rattle.fancy_index.specs.Words.{bytes_eq, list_all, Descr, Byte, Int, IndexItem, Ellipsis, NewAxis, Array, is_place, Placed, is_on_axis, ScalarDescr, BoolScalar}
-use Rattle.fancy_index.specs.declared.index_parts.Kind.{Kind}
-use Rattle.fancy_index.specs.declared.index_parts.Kind.TheVariants.{Integers, Mask, NoIndex}
+use Rattle.fancy_index.specs.declared.kinds.Kind.{Kind}
+use Rattle.fancy_index.specs.declared.kinds.Kind.TheVariants.{Integers, Mask, NoIndex}
 
 -- an array in an index list: its type, its shape, and its items in C order as numbers. A bool is 0 or 1.
 pub record IndexArray : Type 0 where

@@ -2,8 +2,8 @@
 use Rattle.std.specs.Prelude.{ℕ, ◌+◌, Bool, true, false, not, if◌then◌else◌, ℤ, pos, List, [], ◌∷◌, ◌++◌, map, length, slice_index, get_or}
 use Rattle.fancy_index.specs.Words.{int_eq, list_any, flat_map, IndexItem, Integer, Ellipsis, Array, natural, indexes, rank, from_front, Pick, At, Along, New, whole, picks_of, axis_of, broadcast_index}
 use Rattle.fancy_index.specs.IndexArrays.{IndexArray, kind, placed_arrays, left_over}
-use Rattle.fancy_index.specs.declared.index_parts.Kind.{Kind}
-use Rattle.fancy_index.specs.declared.index_parts.Kind.TheVariants.{Integers, Mask}
+use Rattle.fancy_index.specs.declared.kinds.Kind.{Kind}
+use Rattle.fancy_index.specs.declared.kinds.Kind.TheVariants.{Integers, Mask}
 
 -- A part is one of three: an axis that is picked as in a basic index, or a new one; points on one or more axes, with a
 -- shape of their own and the numbers of each point on these axes; or the trace of a written `...`, which separates the

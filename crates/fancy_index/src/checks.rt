@@ -3,7 +3,7 @@
 ghost use Rattle.std.specs.Prelude.{◌≡◌, IfOk, IfErr, Err};
 ghost use Rattle.fancy_index.specs.Clauses.{list_all, is_index, cover, indexed, index_items, items_left, IsChecked};
 
-use crate::index_parts::{Kind, kind_of};
+use crate::kinds::{Kind, kind_of};
 use crate::lists::{Left, axes_beside};
 use arrays::Items;
 use elem_descr::{IndexItem, Refusal};

@@ -1,12 +1,12 @@
 //! The parts of an index list.
 ghost use Rattle.std.specs.Prelude.{All, IfErr, IfOk, OnOk, false, length, map, true, ◌≡◌, ◌≤◌};
-ghost use Rattle.fancy_index.specs.Clauses.{are_within, covers, is_index, is_within, item_axes, Between, parts, parts_of, wholes, index_item_of, has_step, is_ellipsis, max_items, IsOutside, IsWithin, items_left, AddsParts, AreParts, IsChecked, all_named, index_array_of, kind, shown_part};
+ghost use Rattle.fancy_index.specs.Clauses.{are_within, covers, is_index, is_within, item_axes, Between, parts, parts_of, wholes, index_item_of, has_step, is_ellipsis, max_items, IsOutside, IsWithin, items_left, AddsParts, AreParts, IsChecked, all_named, shown_part};
 
 use crate::lists::Left;
 use crate::points::{PointList, Ranks, array_points, integer_point};
 use crate::positions::places;
 use arrays::Items;
-use elem_descr::{Descr, IndexItem, Refusal, Scalar};
+use elem_descr::{IndexItem, Refusal};
 use std::alloc::{AllocError, Global};
 use view_ops::{AxisPick, pick_of, whole_axis};
 
@@ -102,27 +102,4 @@ pub(crate) fn check_numbers(alloc: Global, parts: &[IndexPart<'_>]) -> Result<()
         }
     }
     Ok(())
-}
-
-/// The kinds of index arrays.
-#[derive(Clone, Copy, Debug, PartialEq, Eq)]
-pub(crate) enum Kind {
-    /// Numbers along an axis.
-    Integers,
-    /// A mask: the indexes at which it is true, along as many axes as it has.
-    Mask,
-    /// Not an index.
-    NoIndex,
-}
-
-/// The kind of index that an array is.
-pub(crate) fn kind_of(array: Items<'_>) -> Kind
-    ensures { result ≡ kind (index_array_of array.entry) }
-{
-    match (array.descr, array.layout.shape.as_slice()) {
-        (Descr::Scalar(Scalar::Byte { .. }), _) => Kind::Integers,
-        (Descr::Scalar(Scalar::Int { .. }), _) => Kind::Integers,
-        (Descr::Scalar(Scalar::Bool), [_, ..]) => Kind::Mask,
-        _ => Kind::NoIndex,
-    }
 }

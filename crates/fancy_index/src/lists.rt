@@ -4,7 +4,7 @@ ghost use Rattle.fancy_index.specs.IndexArrays.{item_axes, array_axes_width};
 ghost use Rattle.fancy_index.specs.Sources.{index_item_of, index_items};
 ghost use Rattle.fancy_index.specs.inside.Items.{axes_taken};
 
-use crate::index_parts::{Kind, kind_of};
+use crate::kinds::{Kind, kind_of};
 use arrays::Items;
 use elem_descr::IndexItem;
 

@@ -4,6 +4,7 @@ ghost use Rattle.std.specs.Prelude.{All, IsTrue, [], get_or, length, map, ℕ, �
 ghost use Rattle.fancy_index.specs.Words.{EachWithin, LieWithin, max_bytes, max_items, offsets, run_offsets};
 ghost use Rattle.fancy_index.specs.inside.Moved.{AllStart, AreStarts, IsMoved, IsRunOf, moved_offset};
 
+use crate::tuning::MANY_SHIFTS;
 use arrays::strided;
 use raw_block::RawBlock;
 use shape_strides::{Layout, MAX_ITEMS, Run, Shape, Strides};
@@ -52,9 +53,6 @@ pub(crate) fn moved(base: usize, start: usize, offset: usize) -> usize
     start + offset - base
 }
 
-/// Below this count it does not pay to replace evenly spaced shifts by an axis.
-const MANY: usize = 128;
-
 /// Whether each shift is the one before it plus a step.
 fn rise_evenly(shifts: &[u32], step: u32) -> bool
     requires some { 1 ≤ length shifts.now }
@@ -99,12 +97,12 @@ impl PlanAxes {
     {
         let shifts = self.shifts.as_slice();
         let n = shifts.len();
-        if n < MANY || n > MAX_ITEMS || self.inner.shape.items() != 1 {
+        if n < MANY_SHIFTS || n > MAX_ITEMS || self.inner.shape.items() != 1 {
             return None;
         }
         let step = shifts[1].checked_sub(shifts[0])?;
         // Most shifts that do not rise evenly show it soon.
-        if !rise_evenly(&shifts[..MANY], step) || !rise_evenly(shifts, step) {
+        if !rise_evenly(&shifts[..MANY_SHIFTS], step) || !rise_evenly(shifts, step) {
             return None;
         }
         Some(step)

@@ -1,13 +1,11 @@
-//! Points on some axes: the points of an integer, of an array of integers and of a mask; and their
-//! common lengths.
-ghost use Rattle.std.specs.Prelude.{All, IfErr, IfOk, [], length, map, true, ◌∷◌, ◌≡◌, ◌≢◌, ◌≤◌};
-ghost use Rattle.fancy_index.specs.Clauses.{covers, is_within, item_axes, points_shape, parts_of, Gives, is_place, max_items, Integers, Mask, NoIndex, IsOutside, IsWithin, array_item, kind_in, shown_part, IsPart, are_named, place_of, ranks_of, true_ranks};
+//! Points on some axes: the points of an integer, of an array of integers and of a mask.
+ghost use Rattle.std.specs.Prelude.{All, IfErr, IfOk, [], length, true, ◌∷◌, ◌≡◌, ◌≢◌, ◌≤◌};
+ghost use Rattle.fancy_index.specs.Clauses.{covers, is_within, item_axes, parts_of, is_place, max_items, Integers, Mask, NoIndex, IsOutside, IsWithin, array_item, kind_in, IsPart, are_named, place_of, ranks_of, true_ranks};
 
-use crate::index_parts::{IndexPart, Kind, kind_of};
+use crate::kinds::{Kind, kind_of};
 use crate::masks::true_ranks;
 use crate::positions::{Named, places};
 use arrays::Items;
-use broadcasting::common_of_two;
 use elem_descr::Refusal;
 use smallvec::SmallVec;
 use std::alloc::{AllocError, Global};
@@ -119,24 +117,4 @@ pub(crate) fn array_points<'a>(
         }
         Kind::NoIndex => unreachable!(),
     }
-}
-
-/// The common lengths of all points. Lengths that do not broadcast are refused as `IndexShapes`.
-pub(crate) fn points_shape(
-    alloc: Global,
-    parts: &[IndexPart<'_>],
-) -> Result<SmallVec<usize, 4>, Refusal>
-    ensures { Gives (λ v. v.items) result (points_shape (map shown_part parts.now)) }
-{
-    let mut lengths = SmallVec::new(alloc);
-    for part in parts {
-        if let IndexPart::Points(points) = part {
-            lengths = match common_of_two(alloc, lengths.as_slice(), points.lengths.as_slice()) {
-                Ok(common) => common,
-                Err(Refusal::OutOfMemory) => return Err(Refusal::OutOfMemory),
-                Err(_) => return Err(Refusal::IndexShapes),
-            };
-        }
-    }
-    Ok(lengths)
 }

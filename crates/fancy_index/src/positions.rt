@@ -1,7 +1,7 @@
 //! The integers of an array, read in place, and the indexes that they stand for.
 ghost use Rattle.std.specs.Prelude.{◌≡◌, ◌≤◌, ◌<◌, ℤ, List, length, get_or, pos, IsTrue};
 ghost use Rattle.fancy_index.specs.Words.{Gives, count, max_items};
-ghost use Rattle.fancy_index.specs.declared.index_parts.Kind.TheVariants.{Integers};
+ghost use Rattle.fancy_index.specs.declared.kinds.Kind.TheVariants.{Integers};
 ghost use Rattle.fancy_index.specs.inside.Items.{kind_in, numbers_in};
 ghost use Rattle.fancy_index.specs.inside.Words.{named_places, word, words_along, AreWords, IsNative, LiesIn, IsPlaceOf, ArePlaces};
 

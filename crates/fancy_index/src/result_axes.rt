@@ -1,13 +1,35 @@
-//! The axes of the result, and the place of the points' axes among them.
+//! The axes of the result: the common lengths of the points, and the place of these axes among the
+//! others.
 ghost use Rattle.std.specs.Prelude.{length, map, ◌≡◌, ◌≤◌};
-ghost use Rattle.fancy_index.specs.Clauses.{all_axes, are_points, axes_of_part, other_axes, points_place, Gives, shape_of, shown_part, gone_on};
+ghost use Rattle.fancy_index.specs.Clauses.{all_axes, are_points, axes_of_part, other_axes, points_place, points_shape, Gives, shape_of, shown_part, gone_on};
 
 use crate::index_parts::IndexPart;
+use broadcasting::common_of_two;
 use elem_descr::Refusal;
 use shape_strides::Shape;
 use smallvec::SmallVec;
 use std::alloc::{AllocError, Global};
 use view_ops::AxisPick;
+
+/// The common lengths of all points. Lengths that do not broadcast are refused as `IndexShapes`.
+pub(crate) fn points_shape(
+    alloc: Global,
+    parts: &[IndexPart<'_>],
+) -> Result<SmallVec<usize, 4>, Refusal>
+    ensures { Gives (λ v. v.items) result (points_shape (map shown_part parts.now)) }
+{
+    let mut lengths = SmallVec::new(alloc);
+    for part in parts {
+        if let IndexPart::Points(points) = part {
+            lengths = match common_of_two(alloc, lengths.as_slice(), points.lengths.as_slice()) {
+                Ok(common) => common,
+                Err(Refusal::OutOfMemory) => return Err(Refusal::OutOfMemory),
+                Err(_) => return Err(Refusal::IndexShapes),
+            };
+        }
+    }
+    Ok(lengths)
+}
 
 /// The shape of the result, with the axes of the points at their place among the others, or its
 /// refusal.

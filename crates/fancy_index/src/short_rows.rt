@@ -5,14 +5,9 @@ ghost use Rattle.fancy_index.specs.Words.{BeginsWithin, count, max_items, offset
 
 use crate::plan_rows::{PlanAxes, Shifted, are_adjacent};
 use crate::singles::{PackedItems, Source, fill_each, push_each, scatter_each};
+use crate::tuning::{FEW_SHIFTS, SHORT_ROW};
 use raw_block::{BlockBuilder, RawBlock};
 use shape_strides::Run;
-
-/// Rows of more items are long: a call for each row costs little.
-const SHORT: usize = 128;
-
-/// In rows of more items, adjacent ones are copied as one range.
-const FEW: usize = 32;
 
 /// The items of a plan whose inner axes have a single item: at each place of a run, one item for
 /// each of a few shifts.
@@ -35,10 +30,10 @@ impl<'a> ShortRows<'a> {
         ensures { IfSome result (λ rows. short_offsets rows ≡ offsets_from axes.now) }
     {
         let shifts = axes.shifts.as_slice();
-        if shifts.len() > SHORT || axes.inner.shape.items() != 1 {
+        if shifts.len() > SHORT_ROW || axes.inner.shape.items() != 1 {
             return None;
         }
-        if shifts.len() > FEW && are_adjacent(shifts, width) {
+        if shifts.len() > FEW_SHIFTS && are_adjacent(shifts, width) {
             return None;
         }
         let _count = axes.outer.shape.items();

@@ -41,11 +41,13 @@ pub trait Number: Copy {
         ensures bytes { bytes.new ≡ encode (scalar O.order) (number (value self)) }
         ensures value { decode (scalar O.order) bytes.new ≡ number (value self) };
 
-    /// Appends a number to a block, in a single store.
+    /// Appends a number to a block, in a single store. Reading its bytes gives the number.
     #[inline(always)]
     fn push<O: Ordered>(self, block: &mut BlockBuilder)
         requires { WIDTH ≤ block.old.1 }
         ensures bytes { block.new.0 ≡ block.old.0 ++ encode (scalar O.order) (number (value self)) }
+        ensures value { decode (scalar O.order) (encode (scalar O.order) (number (value self)))
+            ≡ number (value self) }
         ensures left { WIDTH + block.new.1 ≡ block.old.1 }
     {
         let mut item = [0; 8];

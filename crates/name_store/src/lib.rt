@@ -12,6 +12,7 @@ mod slot;
 mod slots;
 mod table;
 mod target;
+mod tuning;
 mod write;
 
 pub use bench::Bench;

@@ -5,15 +5,13 @@ ghost use Rattle.name_store.specs.Clauses.{target_offsets, target_shape, AreAll,
 use crate::rewrite::{copy_to, fill, move_to, old_items};
 use crate::slot::Slot;
 use crate::target::{Home, OldItems, Source, Target};
+use crate::tuning::MANY_BYTES;
 use arrays::{gather, goes_by_columns};
 use overlap_copy::{exchange, overwrite, overwrite_each};
 use raw_block::{BlockBuilder, RawBlock};
 use shape_strides::{Layout, in_memory_order, lies_in_c_order};
 use std::alloc::{AllocError, Global};
 use std::mem::replace;
-
-/// Fewer bytes than this are still in the cache on a second pass.
-const MANY_BYTES: usize = 32_768;
 
 /// Old items, and the places where they were.
 #[derive(Drop)]

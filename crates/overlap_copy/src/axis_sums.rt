@@ -1,11 +1,9 @@
 //! Decides whether some sum along axes lies within bounds.
-ghost use Rattle.std.specs.Prelude.{false, ◌<◌, ◌≡◌};
-ghost use Rattle.overlap_copy.specs.Clauses.{No, Yes, AreForward, HasSum, reach_of, stepping, IsTurn, IsGcd};
+ghost use Rattle.std.specs.Prelude.{drop, false, length, slice_index_or, ℕ, ◌+◌, ◌<◌, ◌∷◌, ◌≡◌, ◌≤◌};
+ghost use Rattle.overlap_copy.specs.Clauses.{No, Yes, Axis, AreForward, AreJoined, HasSum, reach_of, stepping, IsTurn, IsGcd};
 
+use crate::tuning::MAX_STEPS;
 use shape_strides::Axis;
-
-/// How many steps a search may take.
-const MAX_STEPS: usize = 10_000;
 
 /// An axis with a step other than 0: an axis of one item, or of step 0, becomes an axis of one
 /// item.

@@ -2,14 +2,11 @@
 ghost use Rattle.std.specs.Prelude.{◌≡◌, ◌+◌, ◌*◌, ◌++◌, ◌<◌, ◌≤◌, length, replicate, All, IfOk, IfErr};
 ghost use Rattle.overlap_copy.specs.Clauses.{ArePaired, BeginsWithin, CanOverwrite, IsNested, IsPacked, Overwrites, RunsLie, assigned, items_at, max_items, offsets, run_offsets, with_items};
 
+use crate::tuning::KEPT_ITEMS;
 use arrays::{copy_run, push_run};
 use raw_block::{BlockBuilder, RawBlock};
 use shape_strides::{Layout, Run, RunPair, RunPairs, Shape, Strides};
 use std::alloc::{AllocError, Global};
-
-/// How many items are kept and written at a time: few enough that they are still in the cache when
-/// they are written.
-const PART: usize = 1024;
 
 /// The first `n` items of a run, and those after them.
 fn split(run: Run, n: usize) -> (Run, Run)
@@ -67,9 +64,9 @@ fn overwrite_run(
     ensures { Overwrites pair width other.now (block.old, kept.old) (block.new, kept.new) }
 {
     let mut left = pair;
-    while left.first.count > PART {
-        let (first, first_left) = split(left.first, PART);
-        let (second, second_left) = split(left.second, PART);
+    while left.first.count > KEPT_ITEMS {
+        let (first, first_left) = split(left.first, KEPT_ITEMS);
+        let (second, second_left) = split(left.second, KEPT_ITEMS);
         overwrite_part(block, RunPair { first, second }, other, width, kept);
         left = RunPair {
             first: first_left,

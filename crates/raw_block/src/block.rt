@@ -1,5 +1,5 @@
-//! A block of bytes: how it is made, read and written as a whole, and dropped.
-ghost use Rattle.std.specs.Prelude.{◌≡◌, ℕ, pos, ◌+◌, ◌*◌, ◌/◌, ◌^◌, ◌<◌, ◌≤◌, List, length, replicate, slice_index_or, IfOk};
+//! A block of bytes: how it is read, written and dropped.
+ghost use Rattle.std.specs.Prelude.{◌≡◌, ℕ, pos, ◌+◌, ◌*◌, ◌/◌, ◌^◌, ◌<◌, ◌≤◌, List, length, slice_index_or};
 ghost use Rattle.raw_block.specs.Words.{sem, refill};
 ghost use Rattle.raw_block.specs.Bytes.{item_at, put, little_number, little_bytes, EachWithin, copied, copied_within, filled, swapped, traded};
 ghost use Rattle.raw_block.specs.NumberRuns.{signed_number, signed_numbers, adjacent_items, adjacent_numbers, AreArrays, with_run, SameBeside};
@@ -12,7 +12,7 @@ use crate::item::{move_item, number_of, put_item};
 use crate::number_runs::{RunI32, RunI64, items_at};
 use crate::strided::{self, Steps, StridedItems};
 pub use builder::BlockBuilder;
-use std::alloc::{AllocError, Global};
+use std::alloc::Global;
 use std::marker::Model;
 
 /// One block of memory, which starts at a multiple of 16. It is made from zeros or from given
@@ -48,26 +48,6 @@ fn padded(len: usize) -> usize
 
 impl RawBlock {
     ghost use Rattle.raw_block.specs.BlockLends.{lends_block, lends_run};
-
-    /// Allocates a block of `len` zeros. Returns `Err` if memory runs out, and always if `len` is
-    /// above `isize::MAX - 15`.
-    pub fn try_zeroed(alloc: Global, len: usize) -> Result<RawBlock, AllocError>
-        ensures { IfOk result (λ b. b ≡ replicate len 0) }
-    {
-        let mut block = BlockBuilder::try_new(alloc, len)?;
-        block.push_zeros(len);
-        Ok(block.finish())
-    }
-
-    /// Allocates a block with these bytes, and writes each of them once. Returns `Err` if memory
-    /// runs out.
-    pub fn try_copied(alloc: Global, bytes: &[u8]) -> Result<RawBlock, AllocError>
-        ensures { IfOk result (λ b. b ≡ bytes.now) }
-    {
-        let mut block = BlockBuilder::try_new(alloc, bytes.len())?;
-        block.push_bytes(bytes);
-        Ok(block.finish())
-    }
 
     /// The number of bytes.
     pub fn len(&self) -> usize

@@ -101,9 +101,6 @@ fn push_total<T: Number>(block: &mut BlockBuilder, total: T)
     requires { T.WIDTH ≤ block.old.1 }
     ensures { IsPushed (T.scalar Little) T.WIDTH (T.value total) block.old block.new }
 {
-    // For the prover alone: `write` states that the bytes decode to the number.
-    let mut item = [0; 8];
-    total.write::<LowFirst>(&mut item[..T::WIDTH]);
     total.push::<LowFirst>(block);
 }
 

@@ -9,6 +9,7 @@ ghost use Rattle.reductions.specs.inside.FoundLaws.{HasFound, HasSought, better_
 ghost use Rattle.reductions.specs.inside.Extremes.{reduction_of, places_of, is_better, better, best_of, best_from, best_is, best_size, place_is, place_size, better_kept, better_left};
 
 use crate::parts::{part, place_of};
+use crate::tuning::SEARCH_BLOCK;
 use machine_numbers::{Number, Ordered, Side};
 
 /// A reduction of numbers of one type, number by number. It starts with the first number, and then
@@ -225,9 +226,6 @@ pub(crate) struct Found<S> {
     place: usize,
 }
 
-/// How many numbers are visited together. Only one block is then searched for the place of the best.
-const BLOCK: usize = 512;
-
 /// Visits the numbers of a block that begins at a place. The best number has the place of its block.
 #[inline(always)]
 fn seek_in<S: Number, O: Ordered, const GREATEST: bool>(
@@ -295,7 +293,7 @@ impl<S: Number, const GREATEST: bool> Fold<S> for PlaceOf<GREATEST> {
         sought.place = all;
         let mut done = 0;
         while done < all {
-            let block = part(side, done, BLOCK.min(all - done));
+            let block = part(side, done, SEARCH_BLOCK.min(all - done));
             sought = seek_in::<S, O, GREATEST>(sought, done, block);
             done += block.run.count;
         }
@@ -303,7 +301,7 @@ impl<S: Number, const GREATEST: bool> Fold<S> for PlaceOf<GREATEST> {
         if place == all {
             return held;
         }
-        let block = part(side, place, BLOCK.min(all - place));
+        let block = part(side, place, SEARCH_BLOCK.min(all - place));
         let place = seen + place + place_of::<S, O>(best, block);
         Found { best, place }
     }

@@ -9,6 +9,7 @@ mod lines;
 mod parts;
 mod reduced_axis;
 mod reducing;
+mod tuning;
 
 pub use elem_descr::Red;
 pub use reducing::reduce;

@@ -6,6 +6,7 @@ ghost use Rattle.reductions.specs.inside.Numbers.{numbers_of, CanTakeIn, TakesIn
 
 use crate::folds::Fold;
 use crate::parts::part;
+use crate::tuning::CHECK_EVERY;
 use elem_descr::Scalar;
 use machine_numbers::{Number, Ordered, Side, place};
 use shape_strides::{Layout, Run, StridedAxis};
@@ -77,9 +78,6 @@ impl<'a> Lines<'a> {
     }
 }
 
-/// How many numbers are reduced before asking whether the result is already decided.
-const BLOCK: usize = 4096;
-
 /// Reduces numbers until the result is decided. `seen` numbers come before them.
 fn fold_blocks<S: Number, O: Ordered, F: Fold<S>>(
     held: F::Held,
@@ -95,7 +93,7 @@ fn fold_blocks<S: Number, O: Ordered, F: Fold<S>>(
         if F::is_decided(held) {
             return held;
         }
-        let block = part(side, done, BLOCK.min(side.run.count - done));
+        let block = part(side, done, CHECK_EVERY.min(side.run.count - done));
         held = F::visit::<O>(held, seen + done, block);
         done += block.run.count;
     }

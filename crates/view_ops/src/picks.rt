@@ -1,6 +1,6 @@
 //! What the items of a basic index select from the axes, and the view of it.
-ghost use Rattle.std.specs.Prelude.{IfOk, IsTrue, OnOk, [], false, length, map, pos, slice_index_or, true, ℕ, ◌++◌, ◌<◌, ◌∷◌, ◌≡◌, ◌≤◌};
-ghost use Rattle.view_ops.specs.Clauses.{flat_map, list_all, are_on_axes, axes_taken, axis_of, has_step, is_on_axis, picked_shape, picked_view, picks, picks_of, shape_picked, takes_axis, whole, ArePicks, first_of, pick_shown, GivesView, KeepsNested, Gives, NewAxis, is_basic, max_axes, AddsPicks, HaveSmallSteps, IsSmallPick, IsSmallStep, axes_of_pick, picked_strides, run_stride, stride_of};
+ghost use Rattle.std.specs.Prelude.{IfOk, IsTrue, OnOk, [], count_by, drop, false, length, map, pos, slice_index_or, true, ℕ, ◌++◌, ◌+◌, ◌-◌, ◌<◌, ◌∷◌, ◌≡◌, ◌≤◌};
+ghost use Rattle.view_ops.specs.Clauses.{flat_map, list_all, are_on_axes, axes_taken, axis_of, has_step, is_on_axis, picked_shape, picked_view, picks, picks_of, shape_picked, takes_axis, whole, width, ArePicks, first_of, pick_shown, GivesView, KeepsNested, Gives, Integer, NewAxis, is_basic, max_axes, AddsPicks, HaveSmallSteps, IsSmallPick, IsSmallStep, axes_of_pick, picked_strides, run_stride, stride_of};
 
 use crate::slice::{Progression, from_front, is_place, slice_of};
 use elem_descr::{IndexItem, Refusal};

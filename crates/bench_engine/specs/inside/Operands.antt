@@ -3,10 +3,10 @@ use Rattle.std.specs.Prelude.{◌≡◌, ◌⊎◌, ℕ, List, map, true, false,
 use Rattle.bench_engine.specs.Words.{list_all, Refusal, OutOfMemory, item_from, Layout, offsets, IsViewOf, can_stretch, stretched_items, Items, Owned, Descr, LeafValue, HasItems, Shows, ArrayRef, State, descr_of, read, Argument, Operand, UnknownName, find_array, is_bound, Computation, Duplicate, Cast, Combine, Transform, Reduce, View, Array}
 use Rattle.script_lang.specs.declared.command.Argument.TheVariants as argument
 use Rattle.bench_engine.specs.Machine.{OperandValues, operand_part, viewed}
-use Rattle.bench_engine.specs.declared.write.Given.{Given}
-use Rattle.bench_engine.specs.declared.write.Given.TheVariants as given
-use Rattle.bench_engine.specs.declared.operate.Part.{Part}
-use Rattle.bench_engine.specs.declared.operate.Part.TheVariants as part
+use Rattle.bench_engine.specs.declared.operands.Given.{Given}
+use Rattle.bench_engine.specs.declared.operands.Given.TheVariants as given
+use Rattle.bench_engine.specs.declared.operands.Part.{Part}
+use Rattle.bench_engine.specs.declared.operands.Part.TheVariants as part
 use Rattle.bench_engine.specs.declared.operate.Sources.{Sources}
 use Rattle.bench_engine.specs.inside.Assigns.{Holds, LiesIn}
 

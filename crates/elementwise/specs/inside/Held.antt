@@ -1,8 +1,8 @@
 -- Operands as items of an element type: used in place, or copied to a block of their own.
 use Rattle.std.specs.Prelude.{ℕ, List}
 use Rattle.elementwise.specs.Words.{Descr, LeafValue, items, owned_items}
-use Rattle.elementwise.specs.declared.apply.Held.{Held}
-use Rattle.elementwise.specs.declared.apply.Held.TheVariants.{Kept, Made}
+use Rattle.elementwise.specs.declared.held.Held.{Held}
+use Rattle.elementwise.specs.declared.held.Held.TheVariants.{Kept, Made}
 
 abbrev pub held_items : Held → List (List LeafValue)
 held_items (Kept i) = items i

@@ -4,10 +4,10 @@ use Rattle.elementwise.specs.Words.{Little, Eight, Scalar, Int, Bytes, LeafValue
 use Rattle.elementwise.specs.Promotion.{is_division, are_comparable}
 use Rattle.elementwise.specs.Operations.{binary, unary}
 use Rattle.elementwise.specs.inside.PairPasses.{says_number, compared_value, truth_value, value_pair, Holds}
-use Rattle.elementwise.specs.declared.pairing.Work.{Work}
+use Rattle.elementwise.specs.declared.operations.Work.{Work}
+use Rattle.elementwise.specs.declared.operations.Work.TheVariants.{Combine, Change, Compare, Cast}
 use Rattle.elementwise.specs.declared.pairing.Pairing.{Pairing}
 use Rattle.elementwise.specs.declared.pairing.Pairing.TheVariants.{Alike, Signs, Texts}
-use Rattle.elementwise.specs.declared.pairing.Work.TheVariants.{Combine, Change, Compare, Cast}
 
 -- ---- for numbers of one scalar
 

@@ -1,7 +1,7 @@
 -- Items of an index list, with their arrays.
 use Rattle.std.specs.Prelude.{◌≡◌, ◌⊎◌, ℕ, ℤ, List, Bool, Result, Err}
 use Rattle.fancy_index.specs.Words.{Refusal, OutOfMemory, IndexOutOfRange, Gives, check, IndexItem, Array, Items}
-use Rattle.fancy_index.specs.declared.index_parts.Kind.{Kind}
+use Rattle.fancy_index.specs.declared.kinds.Kind.{Kind}
 use Rattle.fancy_index.specs.IndexArrays.{IndexArray, kind, array_axes_taken}
 use Rattle.fancy_index.specs.Sources.{index_array_of, index_items}
 

@@ -1,7 +1,7 @@
 use Rattle.std.proofs.Common.{sym, ◌∙◌, pos, not, ◌==◌}
 use Rattle.elementwise.proofs.Words.{Little, low_bits, integer, exact, division_op}
 use Rattle.elementwise.proofs.WordLaws.{are_bits, applied}
-use Rattle.elementwise.proofs.operations.DividingKernel.make.Goals as goal
+use Rattle.elementwise.proofs.divisions.DividingKernel.make.Goals as goal
 
 pub returns : goal.returns
 returns g c =

@@ -2,7 +2,7 @@ use Rattle.std.proofs.Common.{refl, sym, subst}
 use Rattle.bench_engine.proofs.Words.{Array, Part, LiesIn, IsPart, StandsFor}
 use Rattle.bench_engine.proofs.Assigns.{lies-whole, lies-viewed}
 use Rattle.bench_engine.proofs.OperandLaws.{view-within, view-stands}
-use Rattle.bench_engine.proofs.operate.Part.items.Goals as goal
+use Rattle.bench_engine.proofs.operands.Part.items.Goals as goal
 
 pub items_of_view-requires-in-View : goal.items_of_view-requires-in-View
 items_of_view-requires-in-View c =

@@ -1,7 +1,7 @@
 use Rattle.std.proofs.Common.{sym, subst}
 use Rattle.elementwise.proofs.Words.{IsShrunk}
 use Rattle.elementwise.proofs.ShrunkLaws.{is_shrunk}
-use Rattle.elementwise.proofs.operands.without_repeats.Goals as goal
+use Rattle.elementwise.proofs.layouts.without_repeats.Goals as goal
 
 pub returns-clause-first : goal.returns-clause-first
 returns-clause-first c =

@@ -3,7 +3,7 @@ use Rattle.elementwise.proofs.Words.{ScalarDescr, BoolScalar, item_size, item_fr
 use Rattle.elementwise.proofs.StretchedLaws.{inside}
 use Rattle.elementwise.proofs.ShrunkLaws.{bools_again}
 use Rattle.elementwise.proofs.MadeLaws.{made-in}
-use Rattle.elementwise.proofs.operands.spread.Goals as goal
+use Rattle.elementwise.proofs.comparisons.spread.Goals as goal
 
 pub stretched_to-requires : goal.stretched_to-requires
 stretched_to-requires c = (λ i. can_stretch (c.items-items-2.ensures.layout i).shape c.args.shape.now) ∙ c.requires.stretches

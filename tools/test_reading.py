@@ -1,0 +1,43 @@
+"""The files of a crate can be read one after the other: no two import each other, directly or through others."""
+import graphlib
+import unittest
+
+from trials.companion_trials import TOP
+from make.words import reading
+
+CRATES = sorted(path.parent.name for path in TOP.glob("crates/*/src"))
+
+
+class Reading(unittest.TestCase):
+    def test_no_file_imports_one_that_imports_it(self):
+        for crate in CRATES:
+            with self.subTest(crate=crate):
+                graph = reading.graph(crate)
+                order = list(graphlib.TopologicalSorter(graph).static_order())
+                self.assertEqual(sorted(order), sorted(graph))
+
+    def test_each_file_stands_after_those_that_it_imports(self):
+        for crate in CRATES:
+            known, graph, before = reading.modules(crate), reading.graph(crate), set()
+            names = {path: name for name, path in known.items()}
+            for path in reading.in_order(crate):
+                self.assertLessEqual(set(graph[names[path]]), before, path)
+                before.add(names[path])
+            self.assertEqual(before, set(known))
+
+    def test_what_counts_as_an_import(self):
+        known = dict.fromkeys(["lib", "block", "block::builder", "item", "words", "words::verbs"])
+        for name, code, wanted in [
+            ("block", "use crate::item::{put_item, Item};\nuse std::vec::Vec;\n", ["item"]),
+            ("block", "mod builder;\npub use builder::BlockBuilder;\n", []),
+            ("block", "use builder::BlockBuilder;\n", ["block::builder"]),
+            ("block::builder", "use super::{RawBlock, padded};\n", ["block"]),
+            ("item", "fn f() { crate::words::verbs::find(); } // as in crate::block\n", ["words::verbs"]),
+            ("words", "use crate::words::verbs::Verb;\nuse crate::words::Own;\n", ["words::verbs"]),
+            ("item", "#[tactic(auto, unfolding(crate::specs::Items::item))]\n", []),
+        ]:
+            self.assertEqual(reading.imports(name, code, known), wanted, code)
+
+
+if __name__ == "__main__":
+    unittest.main()
