@@ -2,6 +2,7 @@
 from __future__ import annotations
 
 import hashlib
+import os
 import platform
 import re
 import statistics
@@ -44,7 +45,7 @@ def machine(program: Path) -> str:
     model = re.search(r"(?m)^model name\s*: (.*)$", Path("/proc/cpuinfo").read_text())
     checksum = hashlib.sha256(program.read_bytes()).hexdigest()[:12]
     return (f"{time.strftime('%-d %B %Y')}: `{program.name}` (SHA-256 {checksum}..), NumPy {np.__version__} with Python {platform.python_version()}, "
-            f"one core of {model[1] if model else platform.machine()}.")
+            f"one of {os.cpu_count()} cores of {model[1] if model else platform.machine()}, under a load of {os.getloadavg()[2]:.0f}.")
 
 
 def means(figures: Sequence[Figures], given: Namespace) -> list[str]:
