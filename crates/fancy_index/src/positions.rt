@@ -1,10 +1,13 @@
 //! The integers of an array, read in place, and the indexes that they stand for.
-ghost use Rattle.std.specs.Prelude.{◌≡◌, ◌≤◌, ◌<◌, ℤ, List, length, get_or, pos, IsTrue};
+ghost use Rattle.std.specs.Prelude.{◌≡◌, ◌≤◌, ◌<◌, ℤ, List, length, get_or, pos, IfSome, IsTrue};
 ghost use Rattle.fancy_index.specs.Words.{Gives, count, max_items};
 ghost use Rattle.fancy_index.specs.declared.kinds.Kind.TheVariants.{Integers};
 ghost use Rattle.fancy_index.specs.inside.Items.{kind_in, numbers_in};
+ghost use Rattle.fancy_index.specs.inside.Tables.{IsTableOf};
 ghost use Rattle.fancy_index.specs.inside.Words.{named_places, word, words_along, AreWords, IsNative, LiesIn, IsPlaceOf, ArePlaces};
 
+use crate::offset_tables::{OffsetTable, table_if_spread};
+use crate::table_places::{Reading, put_table};
 use arrays::Items;
 use byteorder::{BigEndian, ByteOrder, LittleEndian};
 use elem_descr::{Descr, Order, Refusal, Scalar};
@@ -78,7 +81,7 @@ fn unsigned_place(n: usize, at: u64) -> (bool, u32)
 /// Whether an integer of `N` bytes is in range for an axis of `n` items, and if so, the index that
 /// it stands for.
 #[inline(always)]
-fn word_place<const N: usize>(form: Form, item: &[u8; N], n: usize) -> (bool, u32)
+pub(crate) fn word_place<const N: usize>(form: Form, item: &[u8; N], n: usize) -> (bool, u32)
     requires few { (1 ≤ N) × (N ≤ 8) }
     requires width { form.width ≡ N }
     requires small { n ≤ max_items }
@@ -93,7 +96,7 @@ fn word_place<const N: usize>(form: Form, item: &[u8; N], n: usize) -> (bool, u3
 }
 
 /// Integers that are read one by one.
-trait Integral: Drop {
+pub(crate) trait Integral: Drop {
     ghost numbers: { Self → List ℤ };
 
     /// Whether the number at `k` is in range for an axis of `n` items, and if so, the index that it
@@ -148,7 +151,7 @@ impl<const N: usize> Integral for Words<'_, N> {
 /// Writes the indexes that integers stand for on an axis of `n` items, and returns whether all are
 /// in range. All integers are visited, which is faster than stopping at the first that is out of
 /// range.
-fn put_places<R: Integral>(places: &mut [u32], integers: R, n: usize) -> bool
+pub(crate) fn put_places<R: Integral>(places: &mut [u32], integers: R, n: usize) -> bool
     requires small { n ≤ max_items }
     requires many { length places.old ≡ length (R.numbers integers) }
     ensures { ArePlaces n (R.numbers integers) result places.new }
@@ -195,9 +198,9 @@ fn put_run<const N: usize>(
     }
 }
 
-/// Writes the indexes that the integers of an array, of `N` bytes, stand for on their axis, and
-/// returns whether all are in range.
-fn put_all<const N: usize>(places: &mut [u32], named: Named<'_>, form: Form) -> bool
+/// Writes the indexes that the integers of an array, of `N` bytes, stand for on their axis, run by
+/// run, and returns whether all are in range.
+fn put_runs<const N: usize>(places: &mut [u32], named: Named<'_>, form: Form) -> bool
     requires few { (1 ≤ N) × (N ≤ 8) }
     requires width { form.width ≡ N }
     requires words { AreWords form named.array.descr.now }
@@ -220,6 +223,27 @@ fn put_all<const N: usize>(places: &mut [u32], named: Named<'_>, form: Form) -> 
     are
 }
 
+/// Writes these indexes, by a table of the offsets if there is one, and returns whether all integers
+/// are in range.
+fn put_all<const N: usize>(
+    places: &mut [u32],
+    named: Named<'_>,
+    form: Form,
+    table: &Option<OffsetTable>,
+) -> bool
+    requires few { (1 ≤ N) × (N ≤ 8) }
+    requires width { form.width ≡ N }
+    requires words { AreWords form named.array.descr.now }
+    requires table { IfSome table.now (IsTableOf named.array.layout.now) }
+    requires many { length places.old ≡ count named.array.layout.now.shape }
+    ensures { ArePlaces named.entry.n (numbers_in named.entry.array) result places.new }
+{
+    match table {
+        Some(table) => put_table::<N>(places, Reading { named, form, table }),
+        None => put_runs::<N>(places, named, form),
+    }
+}
+
 /// The indexes that the integers of an array stand for on their axis, or the refusal of one that is
 /// out of range.
 pub(crate) fn places(alloc: Global, named: Named<'_>) -> Result<Vec<u32>, Refusal>
@@ -229,11 +253,12 @@ pub(crate) fn places(alloc: Global, named: Named<'_>) -> Result<Vec<u32>, Refusa
     let form = form_of(named);
     let mut places = vec![in alloc; 0u32; named.array.layout.shape.items()]?;
     let slots = places.as_mut_slice();
+    let table = table_if_spread(alloc, named.array.layout);
     let are = match form.width {
-        1 => put_all::<1>(slots, named, form),
-        2 => put_all::<2>(slots, named, form),
-        4 => put_all::<4>(slots, named, form),
-        _ => put_all::<8>(slots, named, form),
+        1 => put_all::<1>(slots, named, form, &table),
+        2 => put_all::<2>(slots, named, form, &table),
+        4 => put_all::<4>(slots, named, form, &table),
+        _ => put_all::<8>(slots, named, form, &table),
     };
     if !are {
         return Err(Refusal::IndexOutOfRange);
