@@ -3,7 +3,7 @@ ghost use Rattle.std.specs.Prelude.{All, IfOk, IfSome, length, ◌<◌, ◌≡�
 ghost use Rattle.fancy_index.specs.Words.{count, max_bytes, offsets};
 ghost use Rattle.fancy_index.specs.inside.Tables.{IsTableOf};
 
-use crate::shift_columns::along;
+use crate::along_axes::along;
 use crate::tuning::{CACHED_ITEMS, FEWEST_COLUMNS, NEAR_BYTES, NEAR_STEPS};
 use shape_strides::{Layout, MAX_ITEMS, Walk};
 use std::alloc::{AllocError, Global};
