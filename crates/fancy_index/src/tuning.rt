@@ -19,7 +19,7 @@ pub(crate) const NEAR_COLUMNS: usize = 16;
 pub(crate) const NEAR_BYTES: usize = 64;
 
 /// Items that are less than so many of the least steps from each other are near.
-pub(crate) const NEAR_STEPS: usize = 16;
+pub(crate) const NEAR_STEPS: usize = 128;
 
 /// So many items, each in a cache line of its own, stay in the cache.
 pub(crate) const CACHED_ITEMS: usize = 4096;
