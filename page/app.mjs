@@ -107,6 +107,7 @@ class Run {
 }
 
 let isWriting = false, hold = null, run, current = 0, shown = null, isAsked = 0, generation = 0, cursor = null;
+let awaited; // the text of the line for whose answer a Tab waits
 
 // ---- the script
 
@@ -181,7 +182,7 @@ function reveal(line) {
 function offer() {
   const { value, selectionStart } = ui.script, begin = value.slice(value.lastIndexOf("\n", selectionStart - 1) + 1, selectionStart), names = new Set(shown?.names);
   const { stem, words, told } = /^\s*#/.test(begin) ? { words: [], told: "" } : language.offers(begin, names);
-  ui.offers.replaceChildren(...words.slice(0, 12).map(word => made("button", word, { type: "button", onclick: () => complete(stem, word) })), told && begin.trim() ? ` ${told}` : "");
+  ui.offers.replaceChildren(...words.slice(0, 12).map(word => made("button", word, { type: "button", onclick: () => complete(stem, word) })), told && begin.trim() ? `Next: ${told}` : "");
   return { stem, words };
 }
 
@@ -192,6 +193,24 @@ function complete(stem, word) {
 
 /** Whether the caret is in a line for which others are offered. */
 const isOffered = () => Boolean(shown?.offered.length) && caretLine() === shown.line && view.lines[shown.line] === shown.text;
+
+/** The line of the caret, while it has no answer yet; undefined where it has one, or gets none. */
+function unanswered() {
+  const line = caretLine(), text = ui.script.value.split("\n")[line];
+  return hold || !/^\s*[^\s#]/.test(text) || shown?.line === line && shown.text === text ? undefined : text;
+}
+
+/** What Tab does: it takes the lines that are offered, or completes a word. A line that has no answer yet is waited for. */
+function tab(event) {
+  const { stem, words } = offer();
+  awaited = event && unanswered();
+  if (awaited !== undefined) event.preventDefault();
+  else if (isOffered() || stem && words.length) {
+    event?.preventDefault();
+    if (isOffered()) takeOffer();
+    else complete(stem, words[0]);
+  }
+}
 
 /** Puts the lines that are offered in the place of the line. */
 function takeOffer() {
@@ -226,6 +245,7 @@ async function show(line) {
   tellHint(found);
   ui.words.textContent = run.fault || found.words;
   draw(isSame);
+  if (awaited === found.text && caretLine() === found.line) tab();
 }
 
 function tellHint({ hint, offered }) {
@@ -279,7 +299,7 @@ function lightNext(step) {
 // ---- files, links
 
 function listFiles() {
-  const links = run.saved.map(name => made("button", `${name} (saved)`, { type: "button", className: "saved", onclick: async () => save(name, await run.ask("file", name), "application/octet-stream") }));
+  const links = run.saved.map(name => made("button", `Download ${name}`, { type: "button", className: "saved", onclick: async () => save(name, await run.ask("file", name), "application/octet-stream") }));
   const given_ = [...files].map(([name, bytes]) => made("button", `${name}, ${bytes.length} bytes ✕`, { type: "button", title: `Take ${name} away`, onclick: () => { files.delete(name); start(true); } }));
   ui.files.replaceChildren(...(links.length + given_.length ? ["Files: ", ...given_, ...links] : []));
 }
@@ -307,11 +327,15 @@ function note(text, ...buttons) { noteFor(buttons.length ? 60 : 6, text, ...butt
 function noteFor(seconds, text, ...buttons) {
   const said = made("span", text);
   ui.note.replaceChildren(said, ...buttons);
+  delete ui.note.dataset.of;
   setTimeout(() => { if (said.parentNode) ui.note.replaceChildren(); }, 1000 * seconds);
 }
 
+/** Copies a text, and says so until the script changes. */
 async function copy(text, told, ...buttons) {
-  try { await navigator.clipboard.writeText(text); note(told, ...buttons); } catch { prompt("Copy:", text); }
+  try { await navigator.clipboard.writeText(text); } catch { prompt("Copy:", text); return; }
+  note(told, ...buttons);
+  ui.note.dataset.of = "script";
 }
 
 async function linkOf(text) {
@@ -438,18 +462,14 @@ function write(text) {
 const save = (name, text, type) => made("a", "", { download: name, href: URL.createObjectURL(new Blob([text], { type })) }).click();
 const went = line => { if (line !== current && line < Math.max(run.count, hold ? hold.at + 1 : 0)) show(line); };
 let planned = 0; // a paste may come as many events, and is one run
-ui.script.addEventListener("input", () => { clearTimeout(planned); if (!isWriting) planned = setTimeout(() => start()); });
+ui.script.addEventListener("input", () => { awaited = undefined; if (ui.note.dataset.of) ui.note.replaceChildren(); clearTimeout(planned); if (!isWriting) planned = setTimeout(() => start()); });
 ui.keep.addEventListener("click", () => save("script.bench", ui.script.value, "text/plain"));
 document.addEventListener("selectionchange", () => { if (document.activeElement === ui.script && run) { went(caretLine()); offer(); } });
 ui.script.addEventListener("keydown", event => {
   if (event.key === "Escape") ui.script.dataset.leaves = "yes";
   else if (event.key !== "Tab") delete ui.script.dataset.leaves;
   if (event.key !== "Tab" || event.shiftKey || ui.script.dataset.leaves) return;
-  const { stem, words } = offer();
-  if (!isOffered() && (!stem || !words.length)) return;
-  event.preventDefault();
-  if (isOffered()) takeOffer();
-  else complete(stem, words[0]);
+  tab(event);
 });
 const goTo = line => { if (line >= 0 && line < run.count) { moveTo(line); reveal(line); show(line); } };
 ui.slider.addEventListener("input", () => goTo(+ui.slider.value));

@@ -506,6 +506,8 @@ class InBrowser:
             page.ask("link.click()")
             page.wait("window.copied && note.textContent.includes('on this computer only')")
             page.ask("note.querySelector('button').click()")
+            page.ask("script.dispatchEvent(new Event('input'))")  # what was copied may be the script no more
+            self.assertEqual(page.ask("note.textContent"), "")
             made, end = pathlib.Path(folder, "script.html"), time.monotonic() + PATIENT
             while not (made.is_file() and made.stat().st_size > 400_000) and time.monotonic() < end:
                 time.sleep(0.05)
