@@ -1,7 +1,7 @@
 use Rattle.std.proofs.Common.{refl, sym, ◌∙◌, map, arith}
 use Rattle.elementwise.proofs.Words.{mul-le-mul_left, map-map, item_from, count, offsets, cast_item}
 use Rattle.elementwise.proofs.TypedLaws.{kept}
-use Rattle.elementwise.proofs.casts.Held.of.Goals as goal
+use Rattle.elementwise.proofs.held.Held.of.Goals as goal
 
 pub returns-then-keeps_items-clause-items : goal.returns-then-keeps_items-clause-items
 returns-then-keeps_items-clause-items c =
