@@ -178,6 +178,14 @@ class Aarch64(InFolder):
         self.assertEqual(found[0], found[1])
         self.assertEqual([data[18] for data in found[0]], [183, 183])
 
+    def test_calls_of_the_program(self):
+        """The names have all that the program for x86-64 calls, but for what only its start there needs."""
+        told = subprocess.run(["llvm-nm", "-D", "--undefined-only", TOP / "dist/bench-x86_64-linux"],
+                              executable=sources.kit_folder() / "toolchain/bin/clang", capture_output=True, text=True, check=True).stdout
+        calls = {line.split()[1].partition("@")[0] for line in told.splitlines()}
+        start = {"_ITM_deregisterTMCloneTable", "_ITM_registerTMCloneTable", "__cxa_finalize", "__gmon_start__", "__x86_get_cpuid_feature_leaf"}
+        self.assertEqual(calls - start - set(" ".join(machines.GLIBC.values()).split()), set())
+
     def test_calls_that_glibc_has_not(self):
         """The names that stand for glibc are its names."""
         libc = pathlib.Path(self.GLIBC, "lib/libc.so.6")

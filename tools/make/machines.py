@@ -29,8 +29,8 @@ WORDS = {"x86-64-v3": ("--cpu", "x86-64-v3"), "aarch64": ("--target", "aarch64-u
 PARTS = (sources.TOP / "tools/make/system.c", sources.TOP / "page/wide.c")
 # The calls of glibc on aarch64 that the program may make, by the version that first had them there.
 GLIBC = {
-    "2.17": "__errno_location __libc_start_main __sysv_signal __write chmod close fchmod fdatasync flock free fsync ftruncate lseek link malloc memcmp"
-            " memcpy memmove memset open openat read realloc rename signal sigaction unlink unlinkat write",
+    "2.17": "__errno_location __libc_start_main __sysv_signal __write chmod close fchmod fchown fdatasync flock free fsync ftruncate lseek link malloc"
+            " memcmp memcpy memmove memset open openat read realloc rename signal sigaction unlink unlinkat write",
     "2.28": "renameat2 statx",
 }
 FOR_AARCH64 = "--target=aarch64-unknown-linux-gnu"
