@@ -158,7 +158,8 @@ class OnArm(Equal, InFolder):
     class requests(memory.Requests):
         def refusing(self, request):
             env = super().refusing(request)
-            return {**env, "QEMU_SET_ENV": f"LD_PRELOAD={env.pop('LD_PRELOAD')}"}
+            preloaded = env.pop("LD_PRELOAD")  # (not for the shell that starts qemu)
+            return {**env, "QEMU_SET_ENV": f"LD_PRELOAD={preloaded}"}
 
     def refusing(self):
         if not ARM_COMPILER:

@@ -1,6 +1,7 @@
 -- What is asked about the array of a name.
 use Rattle.std.proofs.Common.{◌≡◌, ◌⊎◌, ◌≤◌, ◌<◌, ◌*◌, ℕ, List, length, map, true, false, nat_le, Option, Some, None, Result, Ok, Err, IfOk, IfErr, if◌then◌else◌, refl, sym, ap, ◌∙◌, subst, inl, inr}
 use Rattle.bench_c.proofs.Facts.{le-leb, lt-leb, map-map}
+use Rattle.bench_engine.proofs.Casts.{cast-none, cast-some}
 use Rattle.bench_c.specs.Words.{array_of, descr_text, cast_items, can_cast, cast_item, Gives, Refusal, OutOfMemory, NoSuchCast, TooLarge, UnknownName, Descr, item_size, item_from, encode_item, Owned, owned_items, offsets, ok_or, Array, ArrayRef, State, Shows, Finds, descr_of, find_array, read, count, max_bytes, flat_map}
 use Rattle.bench_c.specs.Arrays.{array_called, bytes_as, info_called, int64, items_called, numbers_called, shape_called, type_called}
 use Rattle.bench_c.specs.inside.Arrays.{Looks}
@@ -72,14 +73,6 @@ unfolding items_called
 items-refused s name e bad = rw bad refl
 
 -- ---- the bytes of items
-
-cast-none : (s : State) (a : Array) (descr : Descr) → can_cast (descr_of s a) descr ≡ false → cast_items s a descr ≡ Err NoSuchCast
-unfolding cast_items
-cast-none s a descr none = rw none refl
-
-cast-some : (s : State) (a : Array) (descr : Descr) → can_cast (descr_of s a) descr ≡ true → cast_items s a descr ≡ Ok (map (cast_item (descr_of s a) descr) (read s a))
-unfolding cast_items
-cast-some s a descr can = rw can refl
 
 bytes-done : (s : State) (a : Array) (r : ArrayRef) (descr : Descr) (o : Owned) → Shows s a r → can_cast r.descr.now descr ≡ true → count r.layout.now.shape * item_size descr ≤ max_bytes → o.descr ≡ descr →
     map (item_from descr o.block) (offsets o.layout) ≡ map (λ offset. cast_item r.descr.now descr (item_from r.descr.now r.block.now offset)) (offsets r.layout.now) →

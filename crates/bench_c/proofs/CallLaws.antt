@@ -1,6 +1,7 @@
 -- What the calls for arrays do, from what was asked or bound.
-use Rattle.std.proofs.Common.{◌≡◌, ◌⊎◌, ℕ, List, Result, Ok, Err, refl, sym, ap, ◌∙◌, subst, inl, inr}
-use Rattle.bench_c.specs.Words.{Refusal, OutOfMemory, Array, ArrayRef, State, Shows, count, item_size, refusal_text}
+use Rattle.std.proofs.Common.{true, ◌≡◌, ◌⊎◌, ℕ, List, Result, Ok, Err, refl, sym, ap, ◌∙◌, subst, inl, inr}
+use Rattle.bench_engine.specs.inside.Contract.{IsRefused}
+use Rattle.bench_c.specs.Words.{Choice, Outcome, Refusal, OutOfMemory, Array, ArrayRef, State, Shows, count, item_size, refusal_text}
 use Rattle.bench_c.specs.declared.array_calls.Info.{Info}
 use Rattle.bench_c.specs.declared.open_bench.OpenBench.{OpenBench}
 use Rattle.bench_c.specs.declared.status.Status.{Status}
@@ -29,3 +30,8 @@ known s name a r many size is shows counted sized = info-of s name a is ∙ λ i
   item_size = (ap item_size shows.descr ∙ sym sized) i;
   writable = sym shows.view.laid.writable_is i;
 })
+
+-- a call that is refused, which it may be as out of memory
+pub may-lack : (outcome : Choice → Outcome) (e : Refusal) → IsRefused true outcome e → (e ≡ OutOfMemory) ⊎ ((choice : Choice) → outcome choice ≡ Err e)
+may-lack outcome e (inl lacks) = inl lacks.0
+may-lack outcome e (inr bad) = inr bad

@@ -10,26 +10,26 @@ use Rattle.bench_c.specs.Calls.{StandsFor}
 use Rattle.bench_c.specs.Arrays.{named}
 
 -- a call to the bench behind an open handle, which stays open
-abbrev pub Behind : (OpenBench → OpenBench → Status → Type 0) → Option OpenBench → Option OpenBench → ℕ → Type 0
-Behind Does (Some old) (Some new) code = StandsFor (Does old new) code
-Behind Does old new code = ⊥
+abbrev pub StaysOpen : (OpenBench → OpenBench → Status → Type 0) → Option OpenBench → Option OpenBench → ℕ → Type 0
+StaysOpen Does (Some old) (Some new) code = StandsFor (Does old new) code
+StaysOpen Does old new code = ⊥
 
 -- The reply is the refusal, and nothing else changes.
-abbrev pub Refuses : OpenBench → Refusal → OpenBench → Status → Type 0
-Refuses old refused new status = (new ≡ record old { reply = refusal_text refused }) × (status ≡ Refused)
+abbrev pub RefusesCall : OpenBench → Refusal → OpenBench → Status → Type 0
+RefusesCall old refused new status = (new ≡ record old { reply = refusal_text refused }) × (status ≡ Refused)
 
 -- Bytes that are asked for are copied out, and the bench stays as it is; or the question is refused, which it may also be
 -- as out of memory, and nothing is copied.
 abbrev pub GivesAsked : (State → Result (List ℕ) Refusal) → List ℕ → List ℕ → ℕ → OpenBench → OpenBench → Status → Type 0
 GivesAsked asked out out' len old new status =
     ((bytes : List ℕ) × (asked old.bench.state ≡ Ok bytes) × (new ≡ old) × CopiesOut bytes out out' len status)
-    ⊎ ((refused : Refusal) × ((refused ≡ OutOfMemory) ⊎ (asked old.bench.state ≡ Err refused)) × Refuses old refused new status × (out' ≡ out) × (len ≡ 0))
+    ⊎ ((refused : Refusal) × ((refused ≡ OutOfMemory) ⊎ (asked old.bench.state ≡ Err refused)) × RefusesCall old refused new status × (out' ≡ out) × (len ≡ 0))
 
 -- What is asked for is set, and the bench stays as it is; or the question is refused, and nothing is set.
 abbrev pub GivesInfo : (State → Result Info Refusal) → Info → Info → OpenBench → OpenBench → Status → Type 0
 GivesInfo asked info info' old new status =
     ((asked old.bench.state ≡ Ok info') × (new ≡ old) × (status ≡ Done))
-    ⊎ ((refused : Refusal) × (asked old.bench.state ≡ Err refused) × Refuses old refused new status × (info' ≡ info))
+    ⊎ ((refused : Refusal) × (asked old.bench.state ≡ Err refused) × RefusesCall old refused new status × (info' ≡ info))
 
 -- X = array .., for a name and contents that are given
 abbrev pub put_outcome : Choice → State → List ℕ → Result Contents Refusal → Outcome

@@ -1,6 +1,6 @@
 //! The calls for arrays: what is known about one, its items, and a new one.
 ghost use Rattle.std.specs.Prelude.{◌≡◌, IsSome};
-ghost use Rattle.bench_c.specs.Clauses.{Behind, GivesAsked, GivesInfo, PutsArray, given_contents, info_called, items_called, numbers_called, refusal_text, shape_called, type_called};
+ghost use Rattle.bench_c.specs.Clauses.{StaysOpen, GivesAsked, GivesInfo, PutsArray, given_contents, info_called, items_called, numbers_called, refusal_text, shape_called, type_called};
 ghost use Rattle.bench_c.specs.declared.status.Status.TheVariants.{Refused};
 
 use crate::asked::{array_called, items_called, numbers_called, type_called};
@@ -130,7 +130,7 @@ pub extern "C" fn bench_c_shape(
     len: &mut usize,
 ) -> u8
     requires { IsSome handle.old.value }
-    ensures { Behind (GivesAsked (shape_called name.now) out.old out.new len.new)
+    ensures { StaysOpen (GivesAsked (shape_called name.now) out.old out.new len.new)
         handle.old.value handle.new.value result }
 {
     let mut bench = mem::replace(handle, Handle::closed(alloc)).into_box();
@@ -149,7 +149,7 @@ pub extern "C" fn bench_c_type(
     len: &mut usize,
 ) -> u8
     requires { IsSome handle.old.value }
-    ensures { Behind (GivesAsked (type_called name.now) out.old out.new len.new)
+    ensures { StaysOpen (GivesAsked (type_called name.now) out.old out.new len.new)
         handle.old.value handle.new.value result }
 {
     let mut bench = mem::replace(handle, Handle::closed(alloc)).into_box();
@@ -167,7 +167,7 @@ pub extern "C" fn bench_c_info(
     info: &mut Info,
 ) -> u8
     requires { IsSome handle.old.value }
-    ensures { Behind (GivesInfo (info_called name.now) info.old info.new)
+    ensures { StaysOpen (GivesInfo (info_called name.now) info.old info.new)
         handle.old.value handle.new.value result }
 {
     let mut bench = mem::replace(handle, Handle::closed(alloc)).into_box();
@@ -187,7 +187,7 @@ pub extern "C" fn bench_c_items(
     len: &mut usize,
 ) -> u8
     requires { IsSome handle.old.value }
-    ensures { Behind (GivesAsked (numbers_called name.now) out.old out.new len.new)
+    ensures { StaysOpen (GivesAsked (numbers_called name.now) out.old out.new len.new)
         handle.old.value handle.new.value result }
 {
     let mut bench = mem::replace(handle, Handle::closed(alloc)).into_box();
@@ -207,7 +207,7 @@ pub extern "C" fn bench_c_get_array(
     len: &mut usize,
 ) -> u8
     requires { IsSome handle.old.value }
-    ensures { Behind (GivesAsked (items_called name.now) out.old out.new len.new)
+    ensures { StaysOpen (GivesAsked (items_called name.now) out.old out.new len.new)
         handle.old.value handle.new.value result }
 {
     let mut bench = mem::replace(handle, Handle::closed(alloc)).into_box();
@@ -226,7 +226,7 @@ pub extern "C" fn bench_c_put_array(
     array: &GivenArray<'_>,
 ) -> u8
     requires { IsSome handle.old.value }
-    ensures { Behind (PutsArray name.now
+    ensures { StaysOpen (PutsArray name.now
         (given_contents array.now.descr.now array.now.shape.now array.now.items.now))
         handle.old.value handle.new.value result }
 {

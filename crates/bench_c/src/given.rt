@@ -1,6 +1,6 @@
 //! Arrays that are given by their type, their shape and the bytes of their items.
 ghost use Rattle.std.specs.Prelude.{◌≡◌, ◌++◌, ◌*◌, ◌≤◌, true, codes, IfOk, OnOk};
-ghost use Rattle.bench_c.specs.Clauses.{Answers, BindsGiven, Gives, array_type, asks, bound_text, count, deleted, given_contents, held, item_size, max_bytes, named};
+ghost use Rattle.bench_c.specs.Clauses.{Answers, CarriesOut, Gives, array_type, asks, bound_text, count, deleted, given_contents, held, item_size, max_bytes, named, put_outcome};
 ghost use Rattle.bench_engine.specs.declared.replies.Origin.TheVariants as origin;
 
 use crate::asked::descr_text;
@@ -97,9 +97,9 @@ pub fn bind_given(
     array: &GivenArray<'_>,
     out: &mut ReplyText,
 ) -> Result<(), Refusal>
-    ensures { BindsGiven bench.old.state name.now
-        (given_contents array.now.descr.now array.now.shape.now array.now.items.now)
-        bench.new.state out.new result }
+    ensures { CarriesOut true (λ choice. put_outcome choice bench.old.state name.now
+        (given_contents array.now.descr.now array.now.shape.now array.now.items.now))
+        bench.old.state bench.new.state out.new result }
 {
     let alloc = out.allocator();
     let name = named(alloc, name)?;

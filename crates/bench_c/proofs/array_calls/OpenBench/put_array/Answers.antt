@@ -1,4 +1,5 @@
 use Rattle.std.proofs.Common.{inl, inr, refl}
+use Rattle.bench_c.proofs.CallLaws.{may-lack}
 use Rattle.bench_c.proofs.array_calls.OpenBench.put_array.Goals as goal
 
 pub returns-in-Ok : goal.returns-in-Ok
@@ -9,4 +10,4 @@ returns-in-Ok c =
 pub returns : goal.returns
 returns c =
     let e = c.in-Err.ensures in
-    record { files = refl; puts = inr (c.in-Err.refusal, e.1, e.0, c.refuse.ensures.reply, c.refuse.ensures.status) }
+    record { files = refl; puts = inr (c.in-Err.refusal, may-lack _ _ e.1, e.0, c.refuse.ensures.reply, c.refuse.ensures.status) }
