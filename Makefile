@@ -6,7 +6,7 @@
 # make uninstall      takes them away again
 # make package        out/bench-VERSION-x86_64-linux.tar.gz, which runs where it is unpacked
 # make static         out/bench-x86_64-linux-static, of what `make` built, for systems without glibc 2.34; needs gcc and its libc.a
-# make pictures       draws the pictures of the docs from scripts in examples/; needs Node
+# make pictures       draws the pictures of the docs from scripts in examples/ and the table of docs/SPEED.md; needs Node
 # make page           dist/bench.html, the bench in one page, with dist/bench.wasm and dist/bench.mjs; proves bench_c
 # make machines       out/machines/, the program and the library for other machines: x86-64 with AVX2, and aarch64; minutes of one core for each of four files
 # make words          writes the words of docs/LANGUAGE.md into help, manual page and syntax files
@@ -85,6 +85,7 @@ pictures:
 	@for drawn in mirrored:4 views:5 broadcast:4 reshape:5 overlap:3; do \
 	    companion/bench-tool draw examples/$${drawn%:*}.bench --line $${drawn#*:} --svg -o $(or $(FOLDER),docs/pictures)/$${drawn%:*}.svg || exit 1; \
 	done
+	@tools/make/speed.py $(or $(FOLDER),docs/pictures)
 
 page: $(if $(filter bench_c,$(crates)),prove-bench_c)
 	@page/build.py

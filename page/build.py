@@ -37,7 +37,7 @@ PARTS = ("retarget.py", "heap.c", "wide.c")  # of what bench.wasm is made, besid
 OPTIMIZED = "-Oz"
 CALLS = ("open", "answer", "reply", "put", "get", "file", "close")
 LINKED = ["--no-entry", "--gc-sections", "--strip-all", "--stack-first", "-z", "stack-size=1048576", "--export=malloc", "--export=realloc", "--export=free", *(f"--export=bench_c_{call}" for call in CALLS)]
-SCRIPTS = ("bench", "trace", "picture", "svg", "python", "tried", "expressions", "offers", "hints", "language", "numpy", "script", "app")
+SCRIPTS = ("bench", "trace", "picture", "svg", "python", "tried", "expressions", "offers", "hints", "near", "language", "numpy", "script", "app")
 IMPORT = re.compile(r"(?m)^import .*\n|^export ")
 COMMENT = re.compile(r"(?ms)^ */\*\*.*?\*/\n|(?m:^ *// (?!---- the page)[^\n]*\n)|(?m:^ +)")  # comments in lines of their own, and indentation
 PROGRAM = re.compile(r'(?<=<script type="application/octet-stream" id="program">)[^<]*')

@@ -188,14 +188,14 @@ export class Hints {
   constructor(language, open) { Object.assign(this, { language, open, isBroken: false }); }
 
   /** What is said of a line beside its reply: the lines that are offered, and texts. `names` are all that are bound, `arrays` those that the
-   *  line names, each with its printed items if there are few, and `file` gives the bytes of a file. */
-  said(line, code, { names, arrays, file }) {
+   *  line names, each with its printed items if there are few, and `files` are those that a line can load. */
+  said(line, code, { names, arrays, files }) {
     if (line.length > LONGEST_LINE) return { offered: [], told: [] };
     let bench;
     try {
       bench = this.open(this.isBroken);
       this.isBroken = false;
-      const trial = new Trial(bench, file);
+      const trial = new Trial(bench, files);
       for (const { array, items } of arrays) for (const text of like(array, items === undefined ? undefined : itemsOf(items))) trial.send(text);
       return code === "E03" ? this.offered(line, trial, names) : { offered: [], told: [this.numbers(line, trial, code)] };
     } catch {
@@ -209,15 +209,15 @@ export class Hints {
   /** What to write instead of a line that is not a command. */
   offered(line, trial, names) {
     const rules = this.language.rulesOfNumPy, [, bare] = /^([^#'"]*[^#\s'"])\s*#.*$/.exec(line) ?? [], { lines, reasons, refusal } = offerOf(bare ?? line, trial, names, rules);
-    const told = [...bare === undefined ? [] : ["a comment needs a line of its own"], ...reasons];
-    if (refusal) return { offered: [], told: [...told, this.why(lines.at(-1), trial, names, refusal)] };
+    const told = [...bare === undefined ? [] : [this.language.phrase("comment")], ...reasons];
+    if (refusal) return { offered: [], told: [...told, ...this.why(lines.at(-1), trial, names, refusal)], isRefused: true };
     if (bare !== undefined && !lines.length && !reasons.length) return { offered: trial.send(bare).accepted ? [bare] : [], told };
     return { offered: lines, told };
   }
 
   /** Why an offered line is refused. */
   why(line, trial, names, { code }) {
-    if (code === "E06") return this.language.unbound(line, [...new Set([...names, ...trial.names()])]) ?? "";
-    return `\`${line}\` is then ${code}: ${code === "E34" ? "there is no file of that name" : this.numbers(line, trial, code)}`;
+    if (code === "E06") return this.language.ofName(line, [...new Set([...names, ...trial.names()])]);
+    return [this.language.phrase("then", line, code, code === "E34" ? this.language.ofFile(line, trial.files) : this.numbers(line, trial, code))];
   }
 }

@@ -1,8 +1,11 @@
 // What a line says, by the tables of docs/LANGUAGE.md: its colours, what may stand at a place, and what is said of a refusal.
 import { Rules } from "./tried.mjs";
+import { nearest, printable } from "./near.mjs";
 
 const TYPES = ["|b1", "|i1", "<i2", "<i4", "<i8", "|u1", "<u2", "<u4", "<u8", "|S8", "T{<i:x:<h:y:}"];
 const ONE_ITEM = /^\s*(\w+)\s*=\s*\w+\[[-+\d,\s]+\]\s*$/;
+const PARTED = /(?=b'|[^\w+-]|$)/y; // behind a type of a record
+const FIRST_WORDS = 10; // of those that are bound, in a hint
 const TOKENS = /(#.*)|(b'(?:[^'\\]|\\.)*'?|"[^"]*"?)|([A-Za-z_]\w*)|([+-]?\d+)/g;
 
 /** A line read as each form of a command, with the parts of the form that fits: `far` is the place up to which it reads as some form, and `wanted` what may stand there, each with
@@ -46,10 +49,20 @@ class Reading {
     return this.want(at, what + (isGlued && this.line.startsWith("[", this.skip(at)) ? " at once behind the name" : ""));
   }
 
-  /** A type: behind a blank, and up to the next one. */
+  /** A type: behind a blank, and up to the next one or to the brace that closes a record. */
   type(at) {
     const begin = this.skip(at);
-    return begin === at || begin === this.line.length ? this.want(at, this.ends.type) : begin + /^(?:[@=<>!^]*T\{(?:[^:}]|:[^:]*:|\}(?=[:}\w]))*\}|[^ \t]+)/.exec(this.line.slice(begin))[0].length;
+    if (begin === at || begin === this.line.length) return this.want(at, this.ends.type);
+    const rest = this.line.slice(begin), opening = /^[@=<>!^]*T\{/.exec(rest)?.[0];
+    if (!opening) return begin + /^[^ \t]*/.exec(rest)[0].length;
+    let [depth, isNamed, end] = [1, false, begin + opening.length];
+    for (; depth; end++) {
+      if (end === this.line.length) return this.want(end, "`}`");
+      depth += isNamed ? 0 : { "{": 1, "}": -1 }[this.line[end]] ?? 0;
+      isNamed = isNamed !== (this.line[end] === ":");
+    }
+    PARTED.lastIndex = end;
+    return PARTED.test(this.line) ? end : this.want(end, "a blank");
   }
 
   want(at, what) {
@@ -61,11 +74,14 @@ class Reading {
 
   skip(at) { return at + /^[ \t]*/.exec(this.line.slice(at))[0].length; }
 
-  /** What may stand where the line stops being a command. */
-  get told() {
-    const { command } = this.ends, [, first, behind] = /^\s*(\w*)\s*(.?)/.exec(this.line);
-    if ([...this.wanted.keys()].join() === "`=`" && !["set", "upd"].includes(first) && /[\w"']|^$/.test(behind)) return { at: this.skip(0), what: [command] };
-    return { at: this.far, what: [...this.wanted.keys()].filter(what => what !== "`[`" || this.wanted.size === 1) };
+  /** Where the line stops being a command, and what could come there. */
+  stop({ phrase, isReserved }) {
+    const { command } = this.ends, begin = this.skip(0), [, first, behind] = /^(\w*)\s*(.?)/.exec(this.line.slice(begin)), isFirst = this.far === begin;
+    if (isFirst && isReserved(first)) return [begin, phrase(behind === "=" ? "reserved" : "before", first)];
+    if (isFirst && first.length > 32) return [begin, phrase("long name")];
+    if ([...this.wanted.keys()].join() === "`=`" && !["set", "upd"].includes(first) && /^[\w"']|^$/.test(behind)) return [begin, command];
+    const wanted = [...this.wanted.keys()].filter(what => what !== "`[`" || this.wanted.size === 1);
+    return [this.far, [wanted.slice(0, -1).join(", "), ...wanted.slice(-1)].filter(Boolean).join(" or ")];
   }
 }
 
@@ -93,32 +109,57 @@ export class Language {
   }
 
   /** What is said of a refused line: the lines that are offered for it; where it stops being a command and what may stand there, or the
-   *  numbers behind its code. `hints` tries lines, and `file` gives the bytes of a file. */
-  hint(moment, hints, file) {
-    if (!this.known.has(moment)) this.known.set(moment, this.hinted(moment, hints, file));
+   *  numbers behind its code. `hints` tries lines, and `files` are those that a line can load. */
+  hint(moment, hints, files) {
+    if (!this.known.has(moment)) this.known.set(moment, this.hinted(moment, hints, files));
     return this.known.get(moment);
   }
 
-  hinted({ line, reply, before, arrays }, hints, file) {
-    const names = [...before.names.keys()], { offered, told } = arrays && hints ? hints.said(line, reply.code, { names, arrays, file }) : { offered: [], told: [] };
-    if (reply.code === "E03") {
-      const { at, what } = new Reading(this, line, new Set(names)).told, isAnswered = offered.length || told.some(text => /^`.*` is then E|^\w+ is not bound/.test(text));
-      return { at: isAnswered ? undefined : at, offered, text: [...told, ...isAnswered || !what.length ? [] : [`expected ${what.slice(0, 4).join(" or ")}`]].join("; ") };
-    }
-    if (reply.code === "E06") return { offered, text: this.unbound(line, names) ?? this.codes.E06[1] };
-    return { offered, text: told[0] ?? this.codes[reply.code]?.[1] ?? "" };
+  hinted({ line, typed = line, reply: { code }, before, arrays }, hints, files) {
+    const names = [...before.names.keys()], told = { E01: () => [this.phrase("too long")], E02: () => [this.ofByte(typed)], E06: () => this.ofName(line, names), E34: () => [this.ofFile(line, files)] }[code]?.();
+    if (told) return { offered: [], text: told.join("; ") };
+    const said = arrays && hints ? hints.said(line, code, { names, arrays, files }) : { offered: [], told: [] };
+    if (code !== "E03") return { offered: [], text: said.told[0] ?? this.codes[code]?.[1] ?? "" };
+    const { at, text } = said.offered.length || said.isRefused ? { text: [] } : this.place(line, names);
+    return { at, offered: said.offered, text: [...said.told, ...text].join("; ") };
+  }
+
+  /** Where a line stops being a command, what could come there, and the words that are near what stands there. */
+  place(line, names) {
+    const reading = new Reading(this, line, new Set(names)), isReserved = word => this.isReserved(word);
+    if (!reading.wanted.size) return { text: [] };
+    const [at, wanted] = reading.stop({ phrase: (...given) => this.phrase(...given), isReserved }), word = /^[a-z_]{4,}|^/.exec(line.slice(at))[0];
+    const near = isReserved(word) ? [] : nearest(word, this.words, 2, 0.75);
+    return { at, text: [`expected ${wanted}`, ...near.length ? [this.phrase("near", near.join(" or "))] : []] };
+  }
+
+  /** A text of the rules about some words. */
+  phrase(key, ...words) { return this.rulesOfNumPy.SAID[key].replace(/\{(\d)\}/g, (_, k) => words[k]); }
+
+  /** The letter of a line that is not allowed. */
+  ofByte(line) {
+    const letters = [...line], at = letters.findIndex(letter => letter !== "\t" && !(letter >= " " && letter <= "~"));
+    return line.startsWith("\ufeff") ? this.phrase("mark") : this.phrase("letter", printable(letters[at] ?? ""), at + 1);
+  }
+
+  /** A name that is not bound, and the nearest one, or all. */
+  ofName(line, names) {
+    const word = line.replace(/^\s*\w+\s*=|"[^"]*"/g, "").match(/(?<![\w'"])[A-Za-z_]\w*/g)?.find(each => !this.isReserved(each) && !names.includes(each));
+    if (word === undefined) return [this.codes.E06[1]];
+    const [near] = nearest(word, names, 1, 0.7), bound = names.length ? this.phrase("names", names.slice(0, FIRST_WORDS).join(" ") + (names.length > FIRST_WORDS ? " .." : "")) : this.phrase("no name");
+    return [this.phrase("unbound", word), near === undefined ? bound : this.phrase("near", near)];
+  }
+
+  /** A file that is not there, and the nearest one, or all. */
+  ofFile(line, files) {
+    const [near] = nearest(line.split('"')[1], [...files.keys()], 1, 0.7), known = [...files.keys()].slice(0, FIRST_WORDS).join(" ");
+    return near === undefined ? known ? this.phrase("files", known) : this.phrase("no file") : this.phrase("near", near);
   }
 
   /** What differs from NumPy after a line that binds a name to one item. */
   oneItem({ line, after }) {
     const array = after.names.get(ONE_ITEM.exec(line)?.[1])?.array;
     return array && !array.shape.length && !array.type.startsWith("T") ? `a view of one item; in NumPy it is a copy (\`copy ${array.name} C\`)` : "";
-  }
-
-  /** Which word of a line is not bound. */
-  unbound(line, names) {
-    const word = line.replace(/^\s*\w+\s*=|"[^"]*"|b'[^']*'/g, "").match(/[A-Za-z_]\w*/g)?.find(each => !this.isReserved(each) && !names.includes(each));
-    return word && `${word} is not bound${names.length ? `; names: ${names.slice(0, 10).join(" ")}${names.length > 10 ? " .." : ""}` : ""}`;
   }
 
   /** The parts of a line, each with what it is: a comment, a text, a word of the language, a name or a number. */

@@ -111,7 +111,7 @@ export class Script {
 
   /** What is said beside a reply, and the lines that are offered. */
   hint(moment) {
-    return moment.reply.accepted ? { text: this.language.oneItem(moment), offered: [] } : this.language.hint(moment, this.hints, name => this.trace.bench.files.get(name));
+    return moment.reply.accepted ? { text: this.language.oneItem(moment), offered: [] } : this.language.hint(moment, this.hints, this.trace.bench.files);
   }
 
   /** What stands beside some lines: of each whether it is accepted, its reply in short, where it stops being a command, and the colours of its names. */

@@ -196,10 +196,10 @@ class State {
 
 /** A line of the script with its reply; the states before and after it; for each buffer the bytes around which it is drawn; the bytes
  *  of the values that the line wrote; where those came from that it moved; the number of the line that it took back; of a refused line the
- *  arrays that it names; and whether there was no room to find these out. */
+ *  arrays that it names, and the line as it was typed; and whether there was no room to find these out. */
 export class Moment {
-  constructor(number, line, reply, before, after, { focus, written = NOTHING_DONE, moved = NOTHING_DONE, undone, arrays, isBlind = false }) {
-    Object.assign(this, { number, line, reply, before, after, focus, written, moved, undone, arrays, isBlind });
+  constructor(number, line, reply, before, after, { focus, written = NOTHING_DONE, moved = NOTHING_DONE, undone, arrays, typed, isBlind = false }) {
+    Object.assign(this, { number, line, reply, before, after, focus, written, moved, undone, arrays, typed, isBlind });
   }
 
   /** The names that the line has. */
@@ -239,7 +239,7 @@ export class Trace {
     const verb = /^ok (\w+)/.exec(reply.text)?.[1];
     if (verb === "save") this.share(line);
     const did = !verb || verb === "save" || this.isBlind ? undefined : this.followed(line, reply, verb);
-    if (!did) return new Moment(this.lines, text, reply, before, before, { focus: this.focus, arrays: NEEDS_ARRAYS.test(reply.code) ? this.named(line) : undefined, isBlind: this.isBlind });
+    if (!did) return new Moment(this.lines, text, reply, before, before, { focus: this.focus, arrays: NEEDS_ARRAYS.test(reply.code) ? this.named(line) : undefined, typed: line, isBlind: this.isBlind });
     if (verb !== "undo") this.kept.push([before, did.focus, this.lines]);
     if (this.kept.length > MOST_UNDO) this.kept.shift();
     this.focus = new Map([...this.focus, ...did.focus]);

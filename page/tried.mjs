@@ -243,12 +243,12 @@ export function fieldsIn(format) {
   return found;
 }
 
-/** A bench in which lines are tried, with what is asked of its arrays. `file` gives the bytes of a file that a line loads. */
+/** A bench in which lines are tried, with what is asked of its arrays. `files` are those that a line can load. */
 export class Trial {
-  constructor(bench, file = () => undefined) { Object.assign(this, { bench, file }); }
+  constructor(bench, files = new Map()) { Object.assign(this, { bench, files }); }
 
   send(line) {
-    const [, name] = /= load "([\w.-]+)"/.exec(line) ?? [], bytes = name && !this.bench.files.has(name) ? this.file(name) : undefined;
+    const [, name] = /= load "([\w.-]+)"/.exec(line) ?? [], bytes = name && !this.bench.files.has(name) ? this.files.get(name) : undefined;
     if (bytes) this.bench.files.set(name, bytes);
     return this.bench.answer(line);
   }

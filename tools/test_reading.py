@@ -1,5 +1,6 @@
 """The files of a crate can be read one after the other: no two import each other, directly or through others."""
 import graphlib
+import re
 import unittest
 
 from trials.companion_trials import TOP
@@ -37,6 +38,16 @@ class Reading(unittest.TestCase):
             ("item", "#[tactic(auto, unfolding(crate::specs::Items::item))]\n", []),
         ]:
             self.assertEqual(reading.imports(name, code, known), wanted, code)
+
+    def test_the_files_that_the_map_names(self):
+        """In a row of a table, a name without a folder lies beside the file that is named before it."""
+        for line in (TOP / "docs/MAP.md").read_text().splitlines():
+            folder = None
+            for name in re.findall(r"`([\w/]+\.(?:rt|antt))`", line) if line.startswith("|") else []:
+                path = TOP / "crates" / name if name.split("/")[0] in CRATES else folder and folder / name
+                if path:
+                    self.assertTrue(path.is_file(), line)
+                    folder = path.parent
 
 
 if __name__ == "__main__":

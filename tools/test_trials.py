@@ -10,7 +10,7 @@ import unittest
 from unittest import mock
 
 import test_rows
-from trials import npy_rule
+from trials import npy_rule, timed
 from trials.companion_trials import PROGRAM, TOP, InFolder, needs_compiler, needs_program, numpy_or_none, share
 
 needs_numpy = unittest.skipUnless(numpy_or_none(), "NumPy is not installed")
@@ -53,6 +53,14 @@ class BesideNumPy(InFolder):
             self.assertIn(" add ", where)
 
     @needs_compiler
+    def test_speeds_go_into_a_page(self):
+        page = self.folder / "SPEED.md"
+        page.write_text("Words.\n\n## Figures\n\nEarlier ones.\n")
+        status, part = self.tried("speed", "--sizes", "100", "20000", "--only", "zeros <i4", "--runs", "1", "--page", str(page))
+        self.assertEqual((status, [row["items"] for row in part["figures"]]), (0, [100, 20000]))
+        self.assertRegex(page.read_text(), r"\AWords\.\n\n## Figures\n\n\d[^|]+\n\n\| Items [^`]+\n\| `zeros <i4` \| [\d.]+ \| -?[\d.]+ \| [\d.]+ \| -?[\d./ ]+ \|\n\Z")
+
+    @needs_compiler
     def test_planted_faults(self):
         """A reply and a bit of a file that are wrong in the program are found; without them nothing is."""
         from trials import planted
@@ -60,6 +68,12 @@ class BesideNumPy(InFolder):
         with mock.patch.multiple(planted, FAULTS=few, SCRIPTS=25):
             status, part = self.tried("planted")
         self.assertEqual((status, part["faults"], part["counts"]), (0, [], {"trials": 4}))
+
+
+class Speeds(unittest.TestCase):
+    def test_the_page_has_each_row(self):
+        names = re.findall(r"(?m)^\| `(.*?)` \|", (TOP / "docs/SPEED.md").read_text())
+        self.assertEqual([name.replace(r"\|", "|") for name in names], [row.name for row in timed.rows(TOP / "tools/trials/speed.txt")])
 
 
 class NpyRule(unittest.TestCase):

@@ -5,6 +5,7 @@ from itertools import repeat
 from typing import Any, Collection, NamedTuple, Optional
 
 from . import language
+from .numpy_rules import phrase
 
 LITERAL, ARRAY = "a literal, as 1, True or b'x'", "the name of an array"
 ARGUMENT = f"{ARRAY} or {LITERAL}"
@@ -236,9 +237,9 @@ class Reading:
         begin = self._skip(0)
         first, behind = re.match(r"(\w*)\s*(.?)", self.line[begin:]).groups()  # type: ignore[union-attr]
         if self.far == begin and first in reserved():
-            return begin, f"a name; `{first}` is a word of the language" if behind == "=" else f"a name and `=`, before `{first}`"
+            return begin, phrase("reserved" if behind == "=" else "before", first)
         if self.far == begin and len(first) > 32:
-            return begin, "a name of at most 32 letters"
+            return begin, phrase("long name")
         if list(self.wanted) == ["`=`"] and first not in ("set", "upd") and re.match("[\\w\"']|$", behind):
             return begin, COMMAND
         wanted = [what for what in self.wanted if what != "`[`" or len(self.wanted) == 1]

@@ -18,7 +18,7 @@ from . import language
 from .grammar import Part, Reading, reserved
 from .session import Array, BenchError, Reply, Session
 from .terminal import printable, say
-from .numpy_rules import NO_KIND, TYPES
+from .numpy_rules import NO_KIND, TYPES, phrase
 from .seen import one_item, seen_by
 from .translate import translated
 from .trials import Trial, like
@@ -109,7 +109,7 @@ class Hints(AbstractContextManager["Hints"]):
 
     def _said(self, line: str, reply: Reply) -> list[str]:
         if reply.code == "E01":
-            return ["the line has more than 65,536 bytes"]
+            return [phrase("too long")]
         if reply.code == "E02":
             return [self._of_byte(line)]
         if len(line) > LONGEST:
@@ -131,9 +131,9 @@ class Hints(AbstractContextManager["Hints"]):
 
     def _of_byte(self, line: str) -> str:
         if line.startswith(("\ufeff", "\xef\xbb\xbf", "\udcef\udcbb\udcbf")):
-            return "the file begins with a byte order mark: save it without one"
+            return phrase("mark")
         at = next(k for k, letter in enumerate(line) if not (letter == "\t" or " " <= letter <= "~"))
-        return f"`{printable(line[at])}` in column {at + 1}: a line has letters, digits and signs of ASCII; in b'..' write \\xhh"
+        return phrase("letter", printable(line[at]), at + 1)
 
     def _of_syntax(self, line: str, names: list[str], trial: Session) -> list[str]:
         """What to write instead of a line that is not a command, or where it stops being one."""
@@ -142,7 +142,7 @@ class Hints(AbstractContextManager["Hints"]):
         self.offered = offer.lines if offer.refusal is None else []
         if bare and not offer.lines and not offer.reasons:
             self.offered = [bare[1]] * trial.send(bare[1]).accepted
-        said = ["a comment needs a line of its own"] * bool(bare) + offer.reasons
+        said = [phrase("comment")] * bool(bare) + offer.reasons
         if self.offered:
             return said + [f"write: {text}" for text in self.offered]
         if offer.refusal is None:
@@ -151,7 +151,7 @@ class Hints(AbstractContextManager["Hints"]):
         if code == "E06":
             return said + self._of_name(last, [*dict.fromkeys([*names, *trial.names()])])
         why = self._of_file(last)[0] if code == "E34" else Numbers(trial, last).said(code)
-        return said + [f"`{last}` is then {code}: {why}"]
+        return said + [phrase("then", last, code, why)]
 
     def _of_place(self, line: str, names: list[str]) -> list[str]:
         """Where a line stops being a command."""
@@ -160,15 +160,15 @@ class Hints(AbstractContextManager["Hints"]):
             return []
         word = re.match(r"[a-z_]{4,}|", line[reading.stop()[0]:])[0]  # type: ignore[index]
         near = [] if word in reserved() else difflib.get_close_matches(word, sorted(reserved()), 2, 0.75)
-        return [*reading.place(), *[f"did you mean {' or '.join(near)}?"] * bool(near)]
+        return [*reading.place(), *[phrase("near", " or ".join(near))] * bool(near)]
 
     def _of_name(self, line: str, names: list[str]) -> list[str]:
         """The hint for a name that is not bound."""
         words = WORD.findall(re.sub(r'^\s*\w+\s*=|"[^"]*"', "", line))
         word = next(word for word in words if word not in names and word not in reserved())
         near = self._near(word, names)
-        bound = f"names: {' '.join(names[:10])}{' ..' * (len(names) > 10)}" if names else "no name is bound yet"
-        return [f"{word} is not bound", f"did you mean {near}?" if near else bound]
+        bound = phrase("names", " ".join(names[:10]) + " .." * (len(names) > 10)) if names else phrase("no name")
+        return [phrase("unbound", word), phrase("near", near) if near else bound]
 
     def _of_file(self, line: str) -> list[str]:
         """The hint for a file that does not exist."""
@@ -177,7 +177,7 @@ class Hints(AbstractContextManager["Hints"]):
             return [f"there is no folder {printable(folder)}"]
         with os.scandir(folder) as entries:
             near = self._near(line.split('"')[1], (entry.name for entry in entries))
-        return [f"did you mean {printable(near)}?" if near else f"looked for in {printable(os.path.abspath(folder))}"]
+        return [phrase("near", printable(near)) if near else phrase("folder", printable(os.path.abspath(folder)))]
 
     def _near(self, word: str, among: Iterable[str]) -> str:
         """The nearest of some words, as far as time allows."""
@@ -364,5 +364,5 @@ class Numbers:
 
     def _e32(self) -> str:
         count = prod(map(int, re.findall(r"\d+", self.text["S"])))
-        values = len(re.findall(r"b'[^']*'|\((?:[^()]|\([^()]*\))*\)|[^\s()]+", self.text["L.."]))
+        values = len(re.findall(r"b'[^']*'|\((?:[^()]|\([^()]*\))*\)|[^\s()]+", self.text.get("L..", "")))
         return f"the shape {self.text['S']} has {items(count)}, and there {'is 1 literal' if values == 1 else f'are {values} literals'}"

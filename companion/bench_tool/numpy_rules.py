@@ -10,8 +10,10 @@
   same arguments, lines, or a reason after `!`. In lines $x is the name that is made and $t, $u and $v are free names; the last line
   that begins with `$x =` is the value, and a parameter stands for its operand.
 - REASONS: what there is not, and why. NO_KIND: what there is not, by the letters of types.
+- SAID: what else is said of a refused line, with {0}, {1} and {2} for what was typed.
 """
 import json
+import re
 from typing import Any
 
 TARGET = r"([A-Za-z_]\w*(?:\.[A-Za-z_]\w*)*\s*(?:\[(?:[^\[\]]|\[[^\[\]]*\])*\])*)"
@@ -139,10 +141,33 @@ REASONS = {
 NO_KIND = {"f": "floats", "c": "complex numbers", "m": "time spans", "M": "dates", "U": "Unicode strings", "O": "Python objects",
            "V": "plain bytes"}
 
+SAID = {
+    "too long": "the line has more than 65,536 bytes",
+    "mark": "the file begins with a byte order mark: save it without one",
+    "letter": "`{0}` in column {1}: a line has letters, digits and signs of ASCII; in b'..' write \\xhh",
+    "comment": "a comment needs a line of its own",
+    "unbound": "{0} is not bound",
+    "near": "did you mean {0}?",
+    "names": "names: {0}",
+    "no name": "no name is bound yet",
+    "files": "there are the files {0}",
+    "no file": "there are no files: Open files, or drop them on the page",
+    "folder": "looked for in {0}",
+    "then": "`{0}` is then {1}: {2}",
+    "reserved": "a name; `{0}` is a word of the language",
+    "before": "a name and `=`, before `{0}`",
+    "long name": "a name of at most 32 letters",
+}
+
+
+def phrase(key: str, *words: object) -> str:
+    """A text of SAID about some words."""
+    return re.sub(r"\{(\d)\}", lambda found: str(words[int(found[1])]), SAID[key])
+
 
 def values() -> dict[str, Any]:
     """All rules, by their names."""
-    names = ("LINES", "OPERATORS", "TURNED", "WORDS", "TYPES", "AND", "CALLS", "REASONS", "NO_FLOATS", "NO_TEXT", "NO_KIND")
+    names = ("SAID", "LINES", "OPERATORS", "TURNED", "WORDS", "TYPES", "AND", "CALLS", "REASONS", "NO_FLOATS", "NO_TEXT", "NO_KIND")
     return {name: globals()[name] for name in names}
 
 

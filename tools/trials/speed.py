@@ -3,41 +3,44 @@
 A script has the set-up of a row and then its line again and again. The time of the line is the difference between a run
 with many repeats of it and a run with fewer, divided by the repeats between, so that neither the start of the program nor
 the set-up counts. Also the shorter run has more repeats than the depth of undo, so that what a line replaces is let go as
-fast as it is kept. NumPy's time is that of `timeit`. Both are processor time, the least of several runs.
+fast as it is kept. NumPy's time is that of `timeit`. Both are processor time, the least of several runs that take turns.
 
-Each row of speed.txt is timed for arrays of each size, at the default depth of undo and with --undo 0, which keeps nothing: the
-geometric mean of the ratios is told for each. A ratio above 1 says that the program takes longer than NumPy. Beside a high
-one stands the floor: the ratio of a plain copy of as many bytes as the line has to read and write, with what undo keeps.
+Each row of speed.txt is timed for arrays of each size, at each depth of undo: the geometric mean of the ratios is told for
+each. A ratio above 1 says that the program takes longer than NumPy. Beside a high one stands the floor: the ratio of a plain
+C loop that does the same, with what undo keeps (floors.c, which needs a compiler). With --page the figures go into a page.
 """
 from __future__ import annotations
 
+import functools
 import itertools
 import math
 import os
-import statistics
+import platform
+import subprocess
 import sys
 import time
 import timeit
 from argparse import Namespace
 from pathlib import Path
+from typing import Callable, Iterator
 
 import numpy as np
 
-from . import TOP
+from . import TOP, speed_page
 from .runs import Part
-from .timed import FOLDER, Row, rows, run
+from .timed import ENVIRONMENT, FOLDER, Row, rows, run
 
 MOST_REPEATS = 2**18
 BEFORE = 24
-LONG_ENOUGH = 0.15
-HIGH = 1.5
-KEPT = 17  # blocks that a name's array has in turn, at the default depth
+LONG_ENOUGH = 0.06
+LEAST_COPIED = 2**14
 ROWS = rows(TOP / "tools/trials/speed.txt")
 WORDS = {
     "record": "T{<i:x:<h:y:2x}",
     "np_record": "np.dtype({'names': ['x', 'y'], 'formats': ['<i4', '<i2'], 'offsets': [0, 4], 'itemsize': 8})",
     "wide": "T{<q:x:<q:y:}", "np_wide": "[('x', '<i8'), ('y', '<i8')]", "folder": FOLDER.name,
 }
+SCRIPT = "x = a; print('ok x <i4 (100,) new', file=nowhere)\n" * 1000
 
 
 def of_size(row: Row, size: int) -> Row:
@@ -48,30 +51,57 @@ def of_size(row: Row, size: int) -> Row:
     return row.with_words({**sizes, **WORDS})._replace(moved=row.moved * size)
 
 
-def bench_time(program: Path, row: Row, depth: int, runs: int) -> float:
-    """The seconds that one line of the program takes, of so many repeats that these can be timed."""
+def enough(seconds: Callable[[int], float], repeats: int) -> int:
+    """How many repeats take so long that they can be timed, from so many on."""
+    while seconds(repeats) < LONG_ENOUGH and repeats < MOST_REPEATS:
+        repeats *= 4
+    return repeats
+
+
+def bench_times(program: Path, row: Row, depth: int) -> Iterator[float]:
+    """The seconds that one line of the program takes: the least so far, at each turn."""
     def repeated(times: int) -> float:
-        return run(program, f"{row.setup}\n" + f"{row.line}\n" * times, depth).seconds
+        return run(program, f"{row.setup}\n" + f"{row.line}\n" * (BEFORE + times), depth).seconds
 
-    repeats, start = 4, repeated(BEFORE)
-    while repeats < MOST_REPEATS and repeated(BEFORE + repeats) - start < LONG_ENOUGH:
-        repeats *= 2
-    pairs = [(repeated(BEFORE + repeats), repeated(BEFORE)) for _ in range(runs)]
-    return (min(long for long, _ in pairs) - min(short for _, short in pairs)) / repeats
+    short, long = repeated(0), math.inf
+    repeats = enough(lambda times: repeated(times) - short, 16)
+    while True:
+        short, long = min(short, repeated(0)), min(long, repeated(repeats))
+        yield (long - short) / repeats
 
 
-def numpy_time(statement: str, setup: str, runs: int) -> float:
-    """The seconds that a statement for NumPy takes."""
+def numpy_times(statement: str, setup: str) -> Iterator[float]:
+    """The seconds that a statement for NumPy takes: the least so far, at each turn."""
     timer = timeit.Timer(statement, setup or "pass", time.process_time, {"np": np, "os": os, "itertools": itertools})
-    loops, _ = timer.autorange()
-    return min(timer.repeat(runs, loops)) / loops
+    repeats, least = enough(timer.timeit, 1), math.inf
+    while True:
+        least = min(least, timer.timeit(repeats))
+        yield least / repeats
 
 
-def copy_time(size: float, runs: int) -> float:
-    """The seconds that it takes to copy, so that so many bytes are read and written: half of them, to one block after the other."""
-    length = math.ceil(size / 2)
-    setup = f"source = np.ones({length}, '|u1'); blocks = itertools.cycle([source.copy() for _ in range({KEPT})])"
-    return numpy_time("np.copyto(next(blocks), source)", setup, runs)
+@functools.lru_cache(maxsize=None)
+def floors(march: str) -> Path:
+    """The compiled floors.c."""
+    made = Path(FOLDER.name, "floors")
+    subprocess.run(["cc", "-O3", *([f"-march={march}"] if march else []), "-o", made, TOP / "tools/trials/floors.c"], check=True)
+    return made
+
+
+def floor_time(program: Path, row: Row, size: int) -> float:
+    """The seconds of a plain C loop that does the same or moves as many bytes, compiled for the processors that the program is for."""
+    march = ("x86-64-v3" if "v3" in program.name else "x86-64-v2") * (platform.machine() == "x86_64")
+    words = [str(floors(march)), row.name, str(size), str(round(row.moved))]
+    return float(subprocess.run(words, check=True, capture_output=True, text=True, env=ENVIRONMENT).stdout)
+
+
+def in_turns(runs: int, *those: Iterator[float]) -> list[float]:
+    """What each has after so many turns."""
+    return [[next(each) for each in those] for _ in range(runs)][-1]
+
+
+def script_time(runs: int) -> float:
+    """The seconds that a line of a Python script takes that only prints a reply. Most of it is Python's compiler."""
+    return in_turns(runs, numpy_times(f"exec({SCRIPT!r})", f"a = np.ones(100); nowhere = open({os.devnull!r}, 'w')"))[0] / 1000
 
 
 def report(part: Part, size: int, given: Namespace) -> None:
@@ -80,26 +110,22 @@ def report(part: Part, size: int, given: Namespace) -> None:
     width = max([14, *(len(row.name) for row in chosen)])
     heads = ["NumPy us", *(head for depth in given.undo for head in (f"undo {depth} us", "ratio")), "floor"]
     print(f"\n{f'{size:,} items':{width}}  " + "  ".join(f"{head:>10}" for head in heads))
-    ratios: dict[int, list[float]] = {depth: [] for depth in given.undo}
     for row in chosen:
         replies = run(given.program, f"{row.setup}\n{row.line}\n", 16, is_kept=True).replies
         if refused := [reply for reply in replies if reply.startswith("no E")]:
             part.fault(f"{row.name}: {row.line}", refused[0], "accepted")
             continue
-        theirs = numpy_time(row.numpy, row.numpy_setup, given.runs)
+        timed = [bench_times(given.program, row, depth) for depth in given.undo]
+        theirs, *ours = in_turns(given.runs, numpy_times(row.numpy, row.numpy_setup), *timed)
         figures = {"NumPy us": theirs * 1e6}
-        for depth in given.undo:
-            ours = bench_time(given.program, row, depth, given.runs)
-            ratios[depth].append(ours / theirs)
-            figures.update({f"undo {depth} us": ours * 1e6, f"ratio {depth}": ours / theirs})
-        if row.moved and max(found[-1] for found in ratios.values()) > HIGH:
-            figures["floor"] = copy_time(row.moved, given.runs) / theirs
+        for depth, seconds in zip(given.undo, ours):
+            figures.update({f"undo {depth} us": seconds * 1e6, f"ratio {depth}": seconds / theirs})
+        if row.moved > LEAST_COPIED and max(ours) > speed_page.HIGH * theirs:
+            figures["floor"] = floor_time(given.program, row, size) / theirs
         print(f"{row.name:{width}}  " + "  ".join(f"{value:10.2f}" for value in figures.values()), flush=True)
         part.figures.append({"row": row.name, "items": size, **figures})
-    for depth, found in ratios.items():
-        mean = statistics.geometric_mean(max(ratio, 0.001) for ratio in found or [1])
-        high = sum(ratio > HIGH for ratio in found)
-        print(f"undo {depth}: geometric mean {mean:.2f} of {len(found)} rows; {high} above {HIGH}", flush=True)
+    for depth in given.undo:
+        print(f"undo {depth}: {speed_page.summary(part.figures, size, depth)}", flush=True)
 
 
 def all_trials(given: Namespace, _folder: Path) -> Part:
@@ -108,4 +134,6 @@ def all_trials(given: Namespace, _folder: Path) -> Part:
     np.set_printoptions(threshold=sys.maxsize, linewidth=sys.maxsize)
     for size in given.sizes:
         report(part, size, given)
+    if given.page:
+        speed_page.write(given.page, part.figures, given, script_time(given.runs) * 1e6)
     return part

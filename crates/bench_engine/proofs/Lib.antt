@@ -8,6 +8,7 @@ pub mod Casts
 pub mod Nested
 pub mod Sets
 pub mod Known
+pub mod KeptBytes
 pub mod Counts
 pub mod Lines
 pub mod Moved

@@ -1,6 +1,7 @@
 pub mod Contents
 pub mod Headline
 pub mod IndexLists
+pub mod KeptBytes
 pub mod Machine
 pub mod Memory
 pub mod Replies

@@ -57,13 +57,14 @@ unfoldable pub use Rattle.literal_items.specs.RangeItems.{range_items}
 pub use Rattle.machine_numbers.specs.Kinds.{is_text}
 pub use Rattle.name_store.specs.ArrayLaws.{found-array, offsets-at}
 pub use Rattle.name_store.specs.Arrays.{addresses, bound_to, bound_view, buffer_of, descr_of, find_array, has_kept, has_room_for, is_bound, keeping, placed_item, read, share_cells, span_of, unbound, undone, write, written}
-pub use Rattle.name_store.specs.Calls.{AnswersBind, AnswersShares, IsUnused, own_buffer}
+pub use Rattle.name_store.specs.Calls.{AnswersBind, AnswersShares, Counts, CountsUndo, CountsWrite, IsUnused, own_buffer}
 pub use Rattle.name_store.specs.Laws.{descr-then, path-then, start-then}
 pub use Rattle.name_store.specs.Parts.{descr_at, part_at, start_at, with_part}
 pub use Rattle.name_store.specs.Shown.{Finds, Shows}
-pub use Rattle.name_store.specs.States.{Array, Buffer, State, start}
+pub use Rattle.name_store.specs.States.{Array, BenchValue, Buffer, State, start}
 pub use Rattle.name_store.specs.Targets.{FitsBuffer, HasItems, LeadsTo, MayWrite, Supplies, target_offsets, target_shape}
 pub use Rattle.name_store.specs.Views.{IsViewIn, MayBind}
+pub use Rattle.name_store.specs.Words.{keep_last}
 pub use Rattle.name_store.specs.declared.bound.ArrayRef.{ArrayRef}
 pub use Rattle.name_store.specs.declared.bound.Bound.{Bound}
 pub use Rattle.name_store.specs.declared.bound.Bound.TheVariants.{Fresh}

@@ -1,6 +1,6 @@
 //! `X = zeros ..`, `full`, `arange`, `array`: bind a name to a new array.
 ghost use Rattle.std.specs.Prelude.{◌≡◌, IfOk, ◌≤◌, ◌-◌, ◌*◌, length, map, min, replicate, true};
-ghost use Rattle.bench_engine.specs.Clauses.{Gives, Answers, item_size, decode_item, item_value, item_values, blocks, IsNumber, size, max_bytes, max_items, count, shape_of, range_count, range_items, has_room_for, ScalarDescr, array_type, zeros_contents, full_contents, array_contents, arange_contents, contents_of, integer_scalar, range_scalar, held, CarriesOut, bound_new, creation_outcome};
+ghost use Rattle.bench_engine.specs.Clauses.{Gives, Answers, item_size, decode_item, item_value, item_values, blocks, IsNumber, size, max_bytes, max_items, count, shape_of, range_count, range_items, has_room_for, ScalarDescr, array_type, zeros_contents, full_contents, array_contents, arange_contents, contents_of, integer_scalar, range_scalar, held, CarriesOut, bound_new, creation_outcome, Counts};
 
 use crate::replies::{Origin, set_bound_text};
 use crate::reply_text::ReplyText;
@@ -167,9 +167,10 @@ pub fn bind_new(
     out: &mut ReplyText,
 ) -> Result<(), Refusal>
     requires room { has_room_for bench.old.state name.now ≡ true }
-    ensures { CarriesOut true
+    ensures answers { CarriesOut true
         (λ choice. bound_new choice bench.old.state name.now origin (held owned))
         bench.old.state bench.new.state out.new result }
+    ensures patches { Counts 0 bench.old result bench.new }
 {
     set_bound_text(out, name, &owned.descr, &owned.layout.shape, origin)?;
     bench.bind(name, Bound::Fresh(owned))
@@ -183,10 +184,11 @@ pub fn make(
     items: &NewItems,
     out: &mut ReplyText,
 ) -> Result<(), Refusal>
-    ensures { CarriesOut true
+    ensures answers { CarriesOut true
         (λ choice.
         creation_outcome choice bench.old.state name.now (contents_of descr.now items.now))
         bench.old.state bench.new.state out.new result }
+    ensures patches { Counts 0 bench.old result bench.new }
 {
     if !bench.has_room_for(name) {
         return Err(Refusal::TooManyNames);

@@ -1,6 +1,6 @@
 //! Carries out one line, and makes its reply.
-ghost use Rattle.std.specs.Prelude.{◌≡◌, List};
-ghost use Rattle.bench_engine.specs.Clauses.{Carried, Reply, Tells, world, meaning_of, Meaning, AnswersMeaning, MayAnswer, ReadsAs, meaning_of_read};
+ghost use Rattle.std.specs.Prelude.{◌≡◌, List, false, IsTrue, OnErr, OnOk};
+ghost use Rattle.bench_engine.specs.Clauses.{Carried, KeepsForUndo, Reply, Tells, world, meaning_of, Meaning, AnswersMeaning, MayAnswer, ReadsAs, meaning_of_read};
 
 use crate::ask::reply;
 use crate::create::make;
@@ -24,9 +24,11 @@ fn perform<N: NpyStore>(
     command: &Command,
     out: &mut ReplyText,
 ) -> Result<(), Refusal>
-    ensures { Carried (MayAnswer (world bench.old.state (N.shelf store.old)) command.now
+    ensures answers { Carried (MayAnswer (world bench.old.state (N.shelf store.old)) command.now
         (world bench.new.state (N.shelf store.new)))
         out.new result }
+    ensures patches { OnOk result (KeepsForUndo command.now bench.old bench.new) }
+    ensures kept { OnErr result (bench.new.patches ≡ bench.old.patches) }
 {
     match command {
         Command::Bind { name, value } => match value {
@@ -64,16 +66,19 @@ fn perform<N: NpyStore>(
 
 /// Carries out a command, makes its reply, and returns whether it was accepted. A refused command
 /// changes nothing, except that a store may have failed during a `save`. The reply is never `out of
-/// memory` for an unknown name, for `del` at depth 0, or for `undo`.
+/// memory` for an unknown name, for `del` at depth 0, or for `undo`. For `undo`, only `set` and `upd`
+/// keep old items: those that they replace.
 pub fn execute<N: NpyStore>(
     bench: &mut Bench,
     store: &mut N,
     command: &Command,
     out: &mut ReplyText,
 ) -> bool
-    ensures { (reply : Reply) × (out.new ≡ reply.text) × (reply.accepted ≡ result)
+    ensures answers { (reply : Reply) × (out.new ≡ reply.text) × (reply.accepted ≡ result)
         × MayAnswer (world bench.old.state (N.shelf store.old)) command.now
         (world bench.new.state (N.shelf store.new)) reply }
+    ensures patches { IsTrue result → KeepsForUndo command.now bench.old bench.new }
+    ensures kept { result ≡ false → bench.new.patches ≡ bench.old.patches }
 {
     match perform(bench, store, command, out) {
         Ok(()) => true,

@@ -1,7 +1,7 @@
 //! `save X "f"` and `X = load "f"`: write an array to a file, and bind a name to the array in a
 //! file.
 ghost use Rattle.std.specs.Prelude.{◌≡◌, ◌++◌, codes, decimal, OnOk};
-ghost use Rattle.bench_engine.specs.Clauses.{store_refusal, world, bound_loaded, Save, Bind, has_room_for, Load, MayAnswer, Carried, CarriesOut};
+ghost use Rattle.bench_engine.specs.Clauses.{store_refusal, world, bound_loaded, Save, Bind, has_room_for, Load, MayAnswer, Carried, CarriesOut, Counts};
 ghost use Rattle.bench_engine.specs.declared.replies.Origin.TheVariants as origin;
 ghost use Rattle.bench_engine.specs.Clauses.{bound_text, held, Finds};
 
@@ -96,9 +96,10 @@ pub fn load<N: NpyStore>(
     file: &FileName,
     out: &mut ReplyText,
 ) -> Result<(), Refusal>
-    ensures { Carried (MayAnswer (world bench.old.state (N.shelf store.old))
+    ensures answers { Carried (MayAnswer (world bench.old.state (N.shelf store.old))
         (Bind name.now (Load file.now)) (world bench.new.state (N.shelf store.new)))
         out.new result }
+    ensures patches { Counts 0 bench.old result bench.new }
 {
     if !bench.has_room_for(name) {
         return Err(Refusal::TooManyNames);

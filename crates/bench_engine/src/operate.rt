@@ -4,7 +4,7 @@ ghost use Rattle.std.specs.Prelude.{◌≡◌, true, ◌∷◌, [], map, IfOk, S
 ghost use Rattle.bench_engine.specs.Clauses.{list_all, offsets, is_bound, Gives, Answers, item_from, promote, integer_compared_result, compared_item, item_value, literal_number, Boolean, OperandValues, literal_value, literal_scalar, operand_of_literal, compared_literal, literal_values, operation_scalar, operation_on, operation_with, argument_values, compute_outcome, AreSources, IsGiven, Knows, OwnStands, Stands, ScalarDescr};
 ghost use Rattle.elem_descr.specs.Values as leaf;
 ghost use Rattle.script_lang.specs.declared.command.Operation.TheVariants as operation;
-ghost use Rattle.bench_engine.specs.Clauses.{held, IsInCOrder, bound_in_computation, computed_contents, origin_of, CarriesOut, Meets};
+ghost use Rattle.bench_engine.specs.Clauses.{held, IsInCOrder, bound_in_computation, computed_contents, origin_of, CarriesOut, Counts, Meets};
 
 use crate::create::{bind_new, filled, item_of};
 use crate::index_list::named_array;
@@ -246,10 +246,11 @@ pub fn compute(
     computation: &Computation,
     out: &mut ReplyText,
 ) -> Result<(), Refusal>
-    ensures { CarriesOut
+    ensures answers { CarriesOut
         (list_all (is_bound bench.old.state) (bound_in_computation computation.now))
         (λ choice. compute_outcome choice bench.old.state name.now computation.now)
         bench.old.state bench.new.state out.new result }
+    ensures patches { Counts 0 bench.old result bench.new }
 {
     let sources = find_sources(bench, computation)?;
     if !bench.has_room_for(name) {

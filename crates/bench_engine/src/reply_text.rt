@@ -9,7 +9,7 @@ use std::alloc::{AllocError, Global};
 use std::io::Write;
 use std::marker::Model;
 
-/// The greatest length of a short reply, which takes no memory.
+/// The greatest length of a short reply, for which there is always room.
 const SHORT: usize = 64;
 
 /// The text of a reply. It always has room for a short one, so every refusal can be reported.
@@ -48,7 +48,7 @@ impl ReplyText {
         *self.bytes.allocator()
     }
 
-    /// Replaces the text by a short one, given in two parts. It takes no memory.
+    /// Replaces the text by a short one, given in two parts. It cannot fail for lack of memory.
     pub fn set(&mut self, head: &[u8], tail: &[u8])
         requires { length head.now + length tail.now ≤ 64 }
         ensures { self.new ≡ head.now ++ tail.now }

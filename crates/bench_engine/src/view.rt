@@ -1,7 +1,7 @@
 //! `X = Y`, `X = Y[ix]`, `X = transpose Y`, `X = reshape Y S`, `X = broadcast Y S`, `X = field Y
 //! "f"`: bind a name to a view of another name's array, or to a copy of some of its items.
 ghost use Rattle.std.specs.Prelude.{◌≡◌, true, option_copied, unwrap_or, ◌∷◌, []};
-ghost use Rattle.bench_engine.specs.Clauses.{list_all, Whole, Indexed, Transposed, Reshaped, Broadcast, is_bound, Shows, Field, Array, names_in_index, names_in_viewing, view_outcome, IsShown, Sees, SeesIn, shape_of_bound, origin_of_bound, CarriesOut};
+ghost use Rattle.bench_engine.specs.Clauses.{list_all, Whole, Indexed, Transposed, Reshaped, Broadcast, is_bound, Shows, Field, Array, names_in_index, names_in_viewing, view_outcome, IsShown, Sees, SeesIn, shape_of_bound, origin_of_bound, CarriesOut, Counts};
 ghost use Rattle.name_store.specs.declared.bound.Bound.TheVariants.{View};
 
 use crate::create::shape_of;
@@ -194,10 +194,11 @@ pub fn view(
     how: &Viewing,
     out: &mut ReplyText,
 ) -> Result<(), Refusal>
-    ensures { CarriesOut
+    ensures answers { CarriesOut
         (list_all (is_bound bench.old.state) (source.now ∷ names_in_viewing how.now))
         (λ choice. view_outcome choice bench.old.state name.now source.now how.now)
         bench.old.state bench.new.state out.new result }
+    ensures patches { Counts 0 bench.old result bench.new }
 {
     let array = named_array(bench, source, index_in(how))?;
     if !bench.has_room_for(name) {

@@ -1,6 +1,6 @@
 //! `set X[ix] = Z` and `upd X[ix] OP Z`: write to items of an array.
-ghost use Rattle.std.specs.Prelude.{◌≡◌, ◌≤◌, ◌*◌, Some, ◌++◌, ◌∷◌};
-ghost use Rattle.bench_engine.specs.Clauses.{list_all, item_size, count, max_bytes, max_items, is_bound, State, Argument, Supplies, argument_items, names_in_argument, new_items, write_outcome, write_reply, Fitted, IsGiven, names_in_index, CarriesOut, Meets, IsTargetIn, Prepares, WritesIn};
+ghost use Rattle.std.specs.Prelude.{◌≡◌, ◌≤◌, ◌*◌, Some, ◌++◌, ◌∷◌, OnErr, OnOk};
+ghost use Rattle.bench_engine.specs.Clauses.{list_all, item_size, count, max_bytes, max_items, is_bound, State, Argument, Supplies, argument_items, names_in_argument, new_items, write_outcome, write_reply, Fitted, IsGiven, names_in_index, CarriesOut, KeepsItems, Meets, IsTargetIn, Prepares, WritesIn};
 
 use crate::create::item_of;
 use crate::index_list::{named_array, named_target};
@@ -65,7 +65,7 @@ fn source_of(
     }
 }
 
-/// Makes `ok set N` or `ok upd N` the reply. It takes no memory.
+/// Makes `ok set N` or `ok upd N` the reply. It cannot fail for lack of memory.
 fn set_count(out: &mut ReplyText, operation: Option<Operation>, count: usize)
     requires { count ≤ max_items }
     ensures { out.new ≡ write_reply operation count }
@@ -141,13 +141,16 @@ pub fn set(
     value: &Argument,
     out: &mut ReplyText,
 ) -> Result<(), Refusal>
-    ensures { CarriesOut
+    ensures answers { CarriesOut
         (list_all (is_bound bench.old.state)
         (selection.entry.name.now ∷ names_in_index selection.entry.index.now
         ++ names_in_argument value.now))
         (λ choice. write_outcome bench.old.state selection.entry.name.now
         selection.entry.index.now operation value.now)
         bench.old.state bench.new.state out.new result }
+    ensures patches { OnOk result (KeepsItems selection.entry.name.now selection.entry.index.now
+        bench.old bench.new) }
+    ensures kept { OnErr result (bench.new.patches ≡ bench.old.patches) }
 {
     let writing = writing_of(out.allocator(), bench, selection, operation, value)?;
     let count = bench.write_items(selection.name, writing.target, writing.source)?;

@@ -1,6 +1,6 @@
 -- What a disk with a cache finds, and what crashes leave after each event.
 use Rattle.std.proofs.Common.{◌≡◌, ◌≢◌, inl, inr, ⊎_elim, ◌-◌, ◌<◌, ◌≤◌, Bool, true, false, ℕ, suc, List, [], ◌∷◌, length, take, drop, get_or, Option, None, Vec, cond, MatchBool, IsTrue, refl, sym, ap, ◌∙◌, subst, arith}
-use Rattle.disk_tests.proofs.Words.{Global, common_steps, get, get-empty, slice_cmp, nat_cmp, bytes_eq, cases_lt, false_from_ne_true, when_true, when_false, bytes_eq-Decides, Event, Changed, FileSynced, NamesSynced, Files, Same, SameBut, Leaves, SameButBoth, Replaces, follows, weaker, only_but, only_same, replaces_again, unmoved, bytes_of_change, bound, get-bound, bound_here, bound_else, found, is_synced, MayStand, MayStay, cached_history, cached_state, file_name, IsUnchanged, ChangesOnly, Moves, found_may_stand, newest}
+use Rattle.disk_tests.proofs.Words.{Global, common_steps, get, get-empty, slice_cmp, nat_cmp, bytes_eq, cases_lt, false_from_ne_true, when_true, when_false, bytes_eq-Decides, Event, Changed, FileSynced, NamesSynced, Files, Same, SameBut, Leaves, SameButBoth, Replaces, follows, weaker, only_but, only_same, replaces_again, unmoved, bytes_of_change, bound, get-bound, bound_here, bound_else, found, is_synced, MayStand, MayStay, cached_history, cached_state, change_count, file_name, IsUnchanged, ChangesOnly, Moves, found_may_stand, newest}
 
 -- a list by its first event
 headed : (rest : List Event) (event : Event) → 1 ≤ length rest → event ≡ get_or rest 0 event → rest ≡ event ∷ take (length rest - 1) (drop 1 rest)
@@ -69,6 +69,11 @@ module _ (events : List Event) (name : Vec ℕ Global) (bytes : Option (Vec ℕ 
   pub changes : Leaves (SameBut name.items) (cached_history events) (cached_history (Changed name bytes is_whole ∷ events))
   changes = one_event (SameBut name.items) events (Changed name bytes is_whole) (λ files other far. refl)
       (λ files left. (bound name.items (get (found events) name.items) files, restored files left, λ other far. sym (bound_else name.items (get (found events) name.items) files other far)))
+
+-- a change of one name does not count as a change of another
+counted_else : (name : Vec ℕ Global) (bytes : Option (Vec ℕ Global)) (is_whole : Bool) (events : List Event) (other : List ℕ) → other ≢ name.items → change_count (Changed name bytes is_whole ∷ events) other ≡ change_count events other
+counted_else name bytes is_whole events other far =
+    ap (λ b. cond b (suc (change_count events other)) (change_count events other)) (false_from_ne_true _ (λ same. far ((bytes_eq-Decides other name.items).0 same)))
 
 -- A whole file takes a name: a crash leaves what was there or the file.
 module _ (events : List Event) (from : List ℕ) (name : Vec ℕ Global) (bytes : Option (Vec ℕ Global)) where
@@ -143,7 +148,7 @@ module _ (name : List ℕ) (bytes : Option (Vec ℕ Global)) (is_whole : Bool) (
   changes_only = subst (λ (v : List ℕ × List Event). ChangesOnly file_name v.0 (cached_state old) (cached_state v.1)) (λ i. (is i, sym made i)) (record {
     files = bound_else called.items (bytes_of_change bytes) (found old);
     crash = changes old called bytes is_whole;
-    current = λ file far current. current;
+    current = λ file far current. current ∙ sym (counted_else called bytes is_whole old file.name.items far);
   })
 
 -- A file has moved: what was found under the one name is found under the other.
@@ -176,7 +181,7 @@ module _ (old : List Event) (arrived gone : Vec ℕ Global) (bytes : Option (Vec
               (changes old arrived bytes is_whole) (changes come gone None true);
           whole = λ synced. subst (λ (v : Option (List ℕ) × Bool). Leaves (Replaces gone.items arrived.items v.0) (cached_history old) (cached_history (Changed gone None true ∷ Changed arrived bytes v.1 ∷ old))) (λ i. (has i, sym (whole ∙ synced) i))
               (replaces_again gone.items arrived.items (bytes_of_change bytes) (arrives old gone.items arrived bytes) (only_but gone.items arrived.items (bytes_of_change bytes) differ (changes (Changed arrived bytes true ∷ old) gone None true)));
-          current = λ file far near current. current;
+          current = λ file far near current. current ∙ sym (counted_else gone None true come file.name.items far ∙ counted_else arrived bytes is_whole old file.name.items near);
         };
       }
 

@@ -1,5 +1,5 @@
 -- Names from std, from the crates below and from `specs/`, which the proofs use.
-pub use Rattle.disk_tests.specs.Cached.{MayStand, MayStay, cached_history, cached_state, file_name, found, is_synced}
+pub use Rattle.disk_tests.specs.Cached.{MayStand, MayStay, cached_history, cached_state, change_count, file_name, found, is_synced}
 pub use Rattle.disk_tests.specs.CachedLaws.{found_may_stand, newest}
 pub use Rattle.disk.specs.Calls.{ChangesOnly, IsUnchanged, Moves, Replaces, SameButBoth}
 pub use Rattle.disk_tests.specs.ChangeLaws.{bound_else, bound_here, get-bound}

@@ -1,5 +1,5 @@
 -- A disk with a cache: what a read finds, and what a crash may leave.
-use Rattle.std.specs.Prelude.{◌≡◌, ◌⊎◌, ◌-◌, ◌||◌, ℕ, Bool, true, IsTrue, List, [], ◌∷◌, length, drop, Option, None, MatchBool}
+use Rattle.std.specs.Prelude.{◌≡◌, ◌⊎◌, ◌-◌, ◌||◌, ℕ, Bool, true, IsTrue, suc, List, [], ◌∷◌, length, drop, Option, None, MatchBool}
 use Rattle.std.proofs.Common.{cond}
 use Rattle.disk_tests.specs.Words.{bytes_eq, empty, get}
 use Rattle.disk_tests.specs.declared.cached.Event.{Event}
@@ -25,6 +25,15 @@ is_synced (FileSynced other ∷ older) name = bytes_eq name other.items || is_sy
 is_synced (NamesSynced ∷ older) name = is_synced older name
 is_synced (Restarted ∷ older) name = true
 
+-- how often the file with this name was changed: made, written, renamed or removed
+abbrev pub change_count : List Event → List ℕ → ℕ
+change_count [] name = 0
+change_count (Changed other bytes is_whole ∷ older) name =
+    let before = change_count older name in cond (bytes_eq name other.items) (suc before) before
+change_count (FileSynced other ∷ older) name = change_count older name
+change_count (NamesSynced ∷ older) name = change_count older name
+change_count (Restarted ∷ older) name = change_count older name
+
 -- What a crash may leave under a name. After a whole change: what the change brought, or what might have been left
 -- before it. After a change that is not whole: anything. Once the names are synced, a file whose bytes were synced
 -- before that is left as a read found it. After a restart, so is every file.
@@ -42,13 +51,13 @@ MayStay events left = (name : List ℕ) → MayStand events name (get left name)
 abbrev pub cached_history : List Event → History
 cached_history events = record { now = length events; at = λ t files. MayStay (drop (length events - t) events) files }
 
--- the disk after these events, on which each open file is current
+-- The disk after these events. An open file is current if nothing but itself has changed its name since it was opened.
 abbrev pub cached_state : List Event → DiskState MemFile
 cached_state events = record {
   files = found events;
   history = cached_history events;
   Synced = λ name. IsTrue (is_synced events name);
-  IsCurrent = λ file. Unit {0};
+  IsCurrent = λ file. file.changes ≡ change_count events file.name.items;
 }
 
 abbrev pub file_name : MemFile → List ℕ

@@ -1,5 +1,5 @@
 -- What the contracts of this crate cite: its own definitions, and names from std and from the crates below.
-pub use Rattle.disk_tests.specs.Cached.{MayStand, cached_state, file_name, found, is_synced}
+pub use Rattle.disk_tests.specs.Cached.{MayStand, cached_state, change_count, file_name, found, is_synced}
 pub use Rattle.disk_tests.specs.CachedLaws.{found_may_stay}
 pub use Rattle.disk.specs.Calls.{ChangesOnly, HasCause, HasRisen, IsUnchanged}
 pub use Rattle.disk_tests.specs.Changes.{bytes_of_change}

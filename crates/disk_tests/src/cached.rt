@@ -1,6 +1,6 @@
 //! A disk in memory with a cache: a crash may lose what was not synced.
-ghost use Rattle.std.specs.Prelude.{◌≡◌, ◌↔◌, ◌++◌, ◌<◌, ◌≤◌, [], None, true, drop, length, option_copied, take, IsTrue, IfOk, OnOk};
-ghost use Rattle.disk_tests.specs.Clauses.{empty, get, Failed, Files, Same, MayLeave, HasCause, bytes_of_change, found, is_synced, MayStand, cached_state, file_name, ChangesOnly, IsUnchanged, found_may_stay};
+ghost use Rattle.std.specs.Prelude.{◌≡◌, ◌↔◌, ◌++◌, ◌<◌, ◌≤◌, [], None, true, drop, length, option_copied, take, IsTrue, IfOk, OnErr, OnOk};
+ghost use Rattle.disk_tests.specs.Clauses.{empty, get, Failed, Files, Same, MayLeave, HasCause, bytes_of_change, found, is_synced, MayStand, cached_state, change_count, file_name, ChangesOnly, IsUnchanged, found_may_stay};
 
 use crate::failing::Failing;
 use disk::{Disk, DiskFault};
@@ -75,6 +75,22 @@ fn are_bytes_synced(events: &[Event], name: &[u8]) -> bool
     true
 }
 
+/// How often the file with this name was changed.
+fn change_count(events: &[Event], name: &[u8]) -> usize
+    ensures { result ≡ change_count events.now name.now }
+{
+    let mut count = 0;
+    let mut rest = events;
+    while let [event, older @ ..] = rest {
+        match event {
+            Event::Changed { name: other, .. } if name == other.as_slice() => count += 1,
+            _ => {}
+        }
+        rest = older;
+    }
+    count
+}
+
 /// Whether two files have the same bytes, or are both missing.
 fn is_same(left: &Option<Vec<u8>>, right: Option<&Vec<u8>>) -> bool
     ensures { IsTrue result
@@ -123,6 +139,7 @@ fn change(
     ensures bound { OnOk result (get (found events.new.items) name.now ≡ bytes_of_change bytes) }
     ensures others { ChangesOnly file_name name.now
         (cached_state events.old.items) (cached_state events.new.items) }
+    ensures kept { OnErr result (events.new.items ≡ events.old.items) }
 {
     let name = Vec::from_slice(alloc, name)?;
     let changed = Event::Changed {
@@ -235,7 +252,14 @@ impl Disk for CachedMemDisk {
         let bytes = self.look(name)?;
         let name = Vec::from_slice(self.alloc, name)?;
         let len = bytes.len() as u64;
-        Ok((MemFile { name, bytes, at: 0 }, len))
+        let changes = change_count(&self.events, &name);
+        let file = MemFile {
+            name,
+            bytes,
+            at: 0,
+            changes,
+        };
+        Ok((file, len))
     }
 
     fn read(&mut self, file: &mut MemFile, piece: &mut [u8]) -> Result<usize, DiskFault> {
@@ -245,20 +269,24 @@ impl Disk for CachedMemDisk {
 
     fn create(&mut self, name: &[u8], _place: &[u8]) -> Result<MemFile, DiskFault> {
         self.failing.count_call()?;
-        let file = MemFile {
-            name: Vec::from_slice(self.alloc, name)?,
-            bytes: Vec::new(self.alloc),
-            at: 0,
-        };
+        let called = Vec::from_slice(self.alloc, name)?;
         let bytes = Vec::new(self.alloc);
         change(self.alloc, &mut self.events, name, Some(bytes), false)?;
-        Ok(file)
+        let changes = change_count(&self.events, name);
+        Ok(MemFile {
+            name: called,
+            bytes: Vec::new(self.alloc),
+            at: 0,
+            changes,
+        })
     }
 
     fn append(&mut self, file: &mut MemFile, bytes: &[u8]) -> Result<(), DiskFault> {
         let mut all = self.look(&file.name)?;
         all.extend_from_slice(bytes)?;
-        Ok(change(self.alloc, &mut self.events, &file.name, Some(all), false)?)
+        change(self.alloc, &mut self.events, &file.name, Some(all), false)?;
+        file.changes = change_count(&self.events, &file.name);
+        Ok(())
     }
 
     fn sync(&mut self, file: &MemFile) -> Result<(), DiskFault> {
@@ -310,6 +338,8 @@ pub struct MemFile {
     name: Vec<u8>,
     bytes: Vec<u8>,
     at: usize,
+    /// How often the file with its name had been changed, when it was opened or last written to.
+    changes: usize,
 }
 
 impl MemFile {
@@ -321,6 +351,7 @@ impl MemFile {
         ensures end { result ≡ 0 →
             0 < length piece.old → drop self.old.at self.old.bytes.items ≡ [] }
         ensures name { self.new.name ≡ self.old.name }
+        ensures changes { self.new.changes ≡ self.old.changes }
     {
         let at = self.at.min(self.bytes.len());
         let rest = &self.bytes[at..];

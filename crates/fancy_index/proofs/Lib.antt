@@ -28,3 +28,5 @@ pub mod AnswerLaws
 pub mod SumLaws
 pub mod AlongLaws
 pub mod StartLaws
+pub mod TableLaws
+pub mod ReadingLaws

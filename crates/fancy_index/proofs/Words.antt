@@ -20,7 +20,7 @@ pub use Rattle.fancy_index.specs.declared.masks.RunAt.{RunAt}
 pub use Rattle.fancy_index.specs.declared.masks.TheConstants.{COUNTS, PLACES}
 pub use Rattle.fancy_index.specs.declared.plan_rows.Shifted.{Shifted}
 pub use Rattle.fancy_index.specs.declared.points.PointList.{PointList}
-pub use Rattle.fancy_index.specs.declared.positions.Form.{Form}
+pub use Rattle.fancy_index.specs.declared.integers.Form.{Form}
 pub use Rattle.fancy_index.specs.declared.result_axes.Stretch.{Stretch}
 pub use Rattle.fancy_index.specs.declared.result_axes.Stretch.TheVariants.{After, Among, Before}
 pub use Rattle.fancy_index.specs.declared.short_rows.ShortRows.{ShortRows}

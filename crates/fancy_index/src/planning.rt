@@ -2,12 +2,13 @@
 ghost use Rattle.std.specs.Prelude.{◌≡◌, ◌⊎◌, ◌<◌, [], map, All, Ok, Err, IfOk, IfErr};
 ghost use Rattle.fancy_index.specs.Clauses.{OutOfMemory, count, shape_of, points_shape, all_axes, view_of, parts_view, indexed, index_items, IsPlanOf, GivesPlan, IsWithin, shown_part, all_named, AreParts, IsReady, view_if_named};
 
+use crate::along_axes::along;
 use crate::checks::check;
 use crate::index_parts::{IndexPart, check_numbers, parts_of};
 use crate::other_axes::rest;
 use crate::plans::Plan;
 use crate::result_axes::{points_place, points_shape, shape_of_all};
-use crate::shift_columns::{Origin, along, shifts};
+use crate::shift_columns::{Origin, shifts};
 use arrays::Items;
 use elem_descr::{IndexItem, Refusal};
 use shape_strides::{Layout, Shape};

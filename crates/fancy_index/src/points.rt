@@ -2,9 +2,10 @@
 ghost use Rattle.std.specs.Prelude.{All, IfErr, IfOk, [], length, true, ◌∷◌, ◌≡◌, ◌≢◌, ◌≤◌};
 ghost use Rattle.fancy_index.specs.Clauses.{covers, is_within, item_axes, parts_of, is_place, max_items, Integers, Mask, NoIndex, IsOutside, IsWithin, array_item, kind_in, IsPart, are_named, place_of, ranks_of, true_ranks};
 
+use crate::integers::Named;
 use crate::kinds::{Kind, kind_of};
 use crate::masks::true_ranks;
-use crate::positions::{Named, places};
+use crate::positions::places;
 use arrays::Items;
 use elem_descr::Refusal;
 use smallvec::SmallVec;

@@ -2,6 +2,7 @@
 ghost use Rattle.std.specs.Prelude.{All, IfOk, OnOk, get_or, length, map, pos, true, ℕ, ◌+◌, ◌<◌, ◌≡◌, ◌≤◌};
 ghost use Rattle.fancy_index.specs.Clauses.{IsShape, address, can_stretch, count, indexes, max_bytes, offsets, IsWithin, IsMoved, AreParts, IsReady, LeadInto, all_named, first_offset, is_named, AllCanGrow, AreSoMany, CanGrowAlong, IsOrigin, BeginAt, BeginsAt, CanAdd, CanGrow, HaveAdded, HaveAllGrown, HaveGrown, HaveGrownFrom, number_along, number_through, point_number, start_of, starts, stretched_ranks, strides_along};
 
+use crate::along_axes::along;
 use crate::index_parts::IndexPart;
 use crate::masks::lead_through;
 use broadcasting::stretched_to;
@@ -27,32 +28,6 @@ fn axes_of(part: &IndexPart<'_>) -> usize
         IndexPart::Axis(AxisPick::New) | IndexPart::Between => 0,
         _ => 1,
     }
-}
-
-/// The items along some axes, starting with one of them. On all other axes the index is that of the
-/// start.
-pub(crate) fn along(
-    alloc: Global,
-    layout: &Layout,
-    axis: usize,
-    axes: &[usize],
-    start: usize,
-) -> Result<Layout, AllocError>
-    requires { BeginAt layout.now axis start axes.now }
-    ensures shape { IfOk result (λ along. along.shape ≡ axes.now) }
-    ensures strides { IfOk result (λ along.
-        along.strides ≡ strides_along layout.now axis axes.now) }
-    ensures offset { IfOk result (λ along. along.offset ≡ start) }
-{
-    let _lengths = layout.shape.as_slice();
-    let strides = layout.strides.as_slice();
-    let shape = Shape::from_lengths(alloc, axes)?;
-    let strides = Strides::from_slice(alloc, &strides[axis..axis + axes.len()])?;
-    Ok(Layout {
-        shape,
-        strides,
-        offset: start,
-    })
 }
 
 /// Adds to each shift the distance from the start of a part's point, if the part has points. Their

@@ -18,6 +18,7 @@ fn push_item(items: &mut BlockBuilder, bytes: &[u8], at: usize, width: usize)
     match width {
         1 => items.push_array::<1>(array_at::<1>(bytes, at)),
         2 => items.push_array::<2>(array_at::<2>(bytes, at)),
+        3 => items.push_array::<3>(array_at::<3>(bytes, at)),
         4 => items.push_array::<4>(array_at::<4>(bytes, at)),
         8 => items.push_array::<8>(array_at::<8>(bytes, at)),
         16 => items.push_array::<16>(array_at::<16>(bytes, at)),
@@ -37,6 +38,7 @@ fn put_item(block: &mut RawBlock, to: usize, bytes: &[u8], at: usize, width: usi
     match width {
         1 => block.put(to, &array_at::<1>(bytes, at)),
         2 => block.put(to, &array_at::<2>(bytes, at)),
+        3 => block.put(to, &array_at::<3>(bytes, at)),
         4 => block.put(to, &array_at::<4>(bytes, at)),
         8 => block.put(to, &array_at::<8>(bytes, at)),
         _ => block.put(to, &bytes[at..at + width]),
@@ -85,6 +87,7 @@ fn push_stretch(items: BlockBuilder, source: Source<'_>, rows: Shifted<'_>) -> B
         }
         (_, 1) => push_each(items, Source { block, width: 1 }, rows),
         (_, 2) => push_each(items, Source { block, width: 2 }, rows),
+        (_, 3) => push_each(items, Source { block, width: 3 }, rows),
         (_, 4) => push_each(items, Source { block, width: 4 }, rows),
         (_, 8) => push_each(items, Source { block, width: 8 }, rows),
         (_, 16) => push_each(items, Source { block, width: 16 }, rows),
@@ -161,6 +164,7 @@ fn scatter_stretch(block: &mut RawBlock, rows: Shifted<'_>, source: PackedItems<
         }
         (_, 1) => scatter_each(block, rows, PackedItems { width: 1, ..source }),
         (_, 2) => scatter_each(block, rows, PackedItems { width: 2, ..source }),
+        (_, 3) => scatter_each(block, rows, PackedItems { width: 3, ..source }),
         (_, 4) => scatter_each(block, rows, PackedItems { width: 4, ..source }),
         (_, 8) => scatter_each(block, rows, PackedItems { width: 8, ..source }),
         _ => scatter_each(block, rows, source),
@@ -207,6 +211,7 @@ pub(crate) fn fill_singles(block: &mut RawBlock, rows: Shifted<'_>, item: &[u8])
     match *item {
         [a] => fill_each(block, rows, &[a]),
         [a, b] => fill_each(block, rows, &[a, b]),
+        [a, b, c] => fill_each(block, rows, &[a, b, c]),
         [a, b, c, d] => fill_each(block, rows, &[a, b, c, d]),
         [a, b, c, d, e, f, g, h] => { fill_each(block, rows, &[a, b, c, d, e, f, g, h]) }
         _ => fill_each(block, rows, item),

@@ -1,4 +1,5 @@
--- The calls that take no memory: writes, if no states are kept, and `shares`, if the arrays lie in different buffers.
+-- The calls that cannot fail for lack of memory: writes, if no states are kept, and `shares`, if the arrays lie in
+-- different buffers.
 use Rattle.std.specs.Prelude.{◌≡◌, ◌≢◌, ◌⊎◌, ℕ, List, Some, IsTrue}
 use Rattle.name_store.specs.Words.{item_size, Layout, is_c_contiguous, offsets, IsStacked, AreApart, AreReversed, AreRuns}
 use Rattle.name_store.specs.States.{State, Array}
@@ -19,7 +20,7 @@ pub record AreShifted (to from : Layout) (item : ℕ) : Type 0 where
 abbrev pub MoveInPlace : Layout → Layout → ℕ → Type 0
 MoveInPlace to from item = AreApart to item from item ⊎ (AreRuns to from ⊎ (AreReversed to from ⊎ AreShifted to from item))
 
--- A write to a view takes no memory if the source is one item, a block or another buffer, or if the items come from the
+-- A write to a view needs no memory if the source is one item, a block or another buffer, or if the items come from the
 -- same buffer and can be moved in place.
 abbrev pub NeedsNoneInView : State → List ℕ → Layout → Source → Type 0
 NeedsNoneInView s name to (One bytes) = Unit {0}
@@ -27,7 +28,7 @@ NeedsNoneInView s name to (Block owned) = Unit {0}
 NeedsNoneInView s name to (Buffer number from) =
     (array : Array) → find_array s.names name ≡ Some array → array.buffer ≡ number → MoveInPlace to from (item_size (descr_of s array))
 
--- A write to the places of a plan takes no memory if the source is one item, or a block whose items are adjacent in C
+-- A write to the places of a plan needs no memory if the source is one item, or a block whose items are adjacent in C
 -- order.
 abbrev pub NeedsNoneInPlan : Source → Type 0
 NeedsNoneInPlan (One bytes) = Unit {0}

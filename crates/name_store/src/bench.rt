@@ -44,7 +44,7 @@ impl Model for Bench {
 impl Bench {
     ghost use Rattle.name_store.specs.Clauses.{start, find_array, has_room_for, AnswersBind, AnswersUnbind, AnswersUndo, AnswersWrite, AnswersShares, Counts, CountsUndo, CountsWrite, NeedsNoMemory, LieInTwo, Finds, IsAim, MayBind};
 
-    /// A bench without names that keeps `depth` earlier states. With depth 0, it takes no memory.
+    /// A bench without names that keeps `depth` earlier states. With depth 0, it cannot fail.
     pub fn try_new(alloc: Global, depth: usize) -> Result<Bench, AllocError>
         requires { depth ≤ 64 }
         ensures empty { IfOk result (λ bench. bench.state ≡ start depth) }
@@ -128,7 +128,7 @@ impl Bench {
         Ok(count)
     }
 
-    /// Unbinds a name. It takes memory only to keep the state before.
+    /// Unbinds a name. It can fail for lack of memory only if states are kept.
     pub fn unbind(&mut self, name: &Name) -> Result<(), Refusal>
         ensures answers { AnswersUnbind self.old.state name.now result self.new.state }
         ensures patches { Counts 0 self.old result self.new }
@@ -144,7 +144,7 @@ impl Bench {
         Ok(())
     }
 
-    /// Goes back to the last state that was kept. It takes no memory.
+    /// Goes back to the last state that was kept. It cannot fail for lack of memory.
     pub fn undo(&mut self) -> Result<(), Refusal>
         ensures answers { AnswersUndo self.old.state result self.new.state }
         ensures patches { CountsUndo self.old result self.new }

@@ -11,7 +11,8 @@ use indexmap::IndexMap;
 use std::alloc::{AllocError, Global};
 use std::marker::Model;
 
-/// The changes that can be undone, oldest first, up to a limit. With limit 0, it takes no memory.
+/// The changes that can be undone, oldest first, up to a limit. With limit 0, there is no buffer for
+/// them.
 #[derive(Drop)]
 pub struct History {
     ring: Option<HeapCircularBuffer<Change>>,

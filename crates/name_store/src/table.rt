@@ -141,8 +141,8 @@ impl Table {
         Ok(self.names.insert(key, entry).unwrap())
     }
 
-    /// Undoes a change, and frees a buffer that has no users left. It takes no memory: the room for
-    /// a name that comes back was made by `make_room` before the change.
+    /// Undoes a change, and frees a buffer that has no users left. It cannot fail for lack of
+    /// memory: the room for a name that comes back was made by `make_room` before the change.
     pub(crate) fn undo(&mut self, change: Change)
         requires can { CanUndo self.old change }
         ensures { IsUndone self.old change self.new }

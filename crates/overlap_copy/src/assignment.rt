@@ -83,10 +83,10 @@ fn assign_runs(block: &mut RawBlock, dst: &Layout, src: &Layout, width: usize) -
 }
 
 /// Copies the items, of `width` bytes, of the layout `src` to those of the layout `dst`, both in C
-/// order, whatever bytes of the block the two share: each item is read as it was before. It takes
-/// no memory if they share none, if both are runs with the same step, or if they are the same run
-/// in opposite directions. Otherwise it allocates memory for the items of `src`, and returns `Err`
-/// if there is none. Both layouts fit in 2^28 bytes, since `may_overlap` compares byte ranges.
+/// order, whatever bytes of the block the two share: each item is read as it was before. It cannot
+/// fail if they share none, if both are runs with the same step, or if they are the same run in
+/// opposite directions. Otherwise it allocates memory for the items of `src`, and returns `Err` if
+/// there is none. Both layouts fit in 2^28 bytes, since `may_overlap` compares byte ranges.
 pub fn assign(
     alloc: Global,
     block: &mut RawBlock,

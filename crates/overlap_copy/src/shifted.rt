@@ -22,7 +22,8 @@ fn source_of(run: Run, to: usize, from: usize) -> Run
 
 /// Copies the items, of `width` bytes, of the layout `src` to those of the layout `dst`, whatever
 /// bytes of the block the two share: each item is read as it was before. Both have the same shape
-/// and strides, and no axis of `dst` steps into the range of the others. It takes no memory.
+/// and strides, and no axis of `dst` steps into the range of the others. It cannot fail for lack of
+/// memory.
 pub fn assign_shifted(block: &mut RawBlock, dst: &Layout, src: &Layout, width: usize)
     requires item { 1 ≤ width }
     requires dst { Fits dst.now (length block.old) width }

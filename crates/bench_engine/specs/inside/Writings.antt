@@ -3,7 +3,7 @@ use Rattle.std.specs.Prelude.{◌≡◌, ◌≤◌, ℕ, List, ◌∷◌, ◌++�
 use Rattle.bench_engine.specs.Words.{list_all, IsPermutation, Refusal, LeafValue, Layout, LayoutPair, count, item_pairs, IsViewOf, stretched, State, descr_of, written, LeadsTo, MayWrite, Supplies, target_offsets, Target, Shows, ArrayRef, Argument, IndexItem, Operation, find_array, is_bound, max_items, View, Array}
 use Rattle.bench_engine.specs.declared.update.Writing.{Writing}
 use Rattle.bench_engine.specs.IndexLists.{names_in_index}
-use Rattle.bench_engine.specs.Machine.{accepted_with, names_in_argument, write_outcome, write_reply}
+use Rattle.bench_engine.specs.Machine.{accepted_with, names_in_argument, target_part, write_outcome, write_reply}
 use Rattle.bench_engine.specs.inside.Assigns.{IsTarget}
 use Rattle.bench_engine.specs.inside.Contract.{IsRefused}
 use Rattle.bench_engine.specs.inside.Meeting.{Meets}
@@ -51,6 +51,7 @@ pub record IsReady (s : State) (name : List ℕ) (index : List (IndexItem (List 
   pub array : Array
   pub found : find_array s.names name ≡ Some array
   pub part : Array
+  pub there : target_part s array index ≡ Ok part
   pub few : count part.shape ≤ max_items
   pub new : List (List LeafValue)
   pub outcome : write_outcome s name index op value ≡ accepted_with (written s array part.places new) (write_reply op (count part.shape))

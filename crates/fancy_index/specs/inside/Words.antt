@@ -3,7 +3,7 @@ use Rattle.std.specs.Prelude.{◌≡◌, ◌+◌, ◌≤◌, ◌==◌, ◌||◌,
 use Rattle.std.specs.List.{list_all}
 use Rattle.fancy_index.specs.Words.{Refusal, IndexOutOfRange, Descr, Little, integer, number_in, item_size, item_at, LieWithin, max_items, max_bytes, Run, run_offsets, natural, from_front, is_place}
 use Rattle.fancy_index.specs.Sources.{number_from}
-use Rattle.fancy_index.specs.declared.positions.Form.{Form}
+use Rattle.fancy_index.specs.declared.integers.Form.{Form}
 
 -- the integer in the bytes of an item
 abbrev pub word : Form → List ℕ → ℤ

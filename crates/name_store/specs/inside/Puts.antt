@@ -55,7 +55,7 @@ abbrev pub InPlace : Target → Layout → ℕ → Type 0
 InPlace (View to) from width = MoveInPlace to from width
 InPlace (Plan plan) from width = ⊥
 
--- writing the items to the target takes no memory
+-- writing the items to the target cannot fail for lack of memory
 abbrev pub NeedsNone : List (Option Slot) → ℕ → Target → Source → Type 0
 NeedsNone others width target (One item) = Unit {0}
 NeedsNone others width target (Block owned) = Unit {0}

@@ -8,7 +8,7 @@ returns-in-Ok-None g c meaning reads = ([], (refl, search rules), silent_line _ 
 
 pub returns-in-Ok-Some : goal.returns-in-Ok-Some
 returns-in-Ok-Some g c meaning reads =
-    let done = c.execute-accepted.ensures in
+    let done = c.execute-accepted.ensures.answers in
     (done.0 ∷ [], (done.0, refl, done.2, done.1), answered _ _ meaning _ _ (rw (c.in-Ok-Some.is, c.in-Ok-Some.field-0-is) at reads) done.3)
 
 pub returns-in-Err : goal.returns-in-Err

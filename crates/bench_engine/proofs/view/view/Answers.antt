@@ -22,16 +22,16 @@ all-bound c = rw c.index_in.ensures at c.in_ok-array.ensures.0
 named : (c : In_ok-array) → list_all (is_bound c.args.bench.now.state) (names_in_viewing c.args.how.now) ≡ true
 named c = (and_parts _ _ (all-bound c)).1
 
-pub returns-in_err-array : goal.returns-in_err-array
-returns-in_err-array c =
+pub returns-in_err-array-clause-answers : goal.returns-in_err-array-clause-answers
+returns-in_err-array-clause-answers c =
     let p = err_from_is_err_and c.from_residual.result c.from_residual.ensures.1 in
     let none = rw c.index_in.ensures at c.in_err-array.ensures.1 in
     rw (p.1, p.2, c.in_err-array.ensures.0) (refl, inr (λ choice. unknown choice _ _ _ _ _ refl none))
 
-pub returns-then-not-has_room_for : goal.returns-then-not-has_room_for
+pub returns-then-not-has_room_for-clause-answers : goal.returns-then-not-has_room_for-clause-answers
 unfolding view_outcome
-returns-then-not-has_room_for c =
-    let at = (goal.at.returns-then-not-has_room_for c).In_ok-array in
+returns-then-not-has_room_for-clause-answers c =
+    let at = (goal.at.returns-then-not-has_room_for-clause-answers c).In_ok-array in
     let it = c.in_ok-array.ensures.1 in
     (refl, inr (λ choice. rw (it.1, named at, sym c.if-not-has_room_for.ensures) refl))
 
@@ -41,10 +41,10 @@ seen-requires-clause-shown c = (c.in_ok-array.ensures.1.0, c.in_ok-array.ensures
 pub seen-requires-clause-bound : goal.seen-requires-clause-bound
 seen-requires-clause-bound c = named (goal.at.seen-requires-clause-bound c).In_ok-array
 
-pub returns-in_err-viewed : goal.returns-in_err-viewed
+pub returns-in_err-viewed-clause-answers : goal.returns-in_err-viewed-clause-answers
 unfolding view_outcome
-returns-in_err-viewed c =
-    let at = (goal.at.returns-in_err-viewed c).In_ok-array in
+returns-in_err-viewed-clause-answers c =
+    let at = (goal.at.returns-in_err-viewed-clause-answers c).In_ok-array in
     let p = err_from_is_err_and c.from_residual-in_err-viewed.result c.from_residual-in_err-viewed.ensures.1 in
     let it = c.in_ok-array.ensures.1 in
     rw (p.1, p.2) (refl, refused-or _ _ _ _ (all-bound at) (c.in_err-viewed.ensures it.0 it.2) (λ bad choice. rw (it.1, named at, sym c.if-not-has_room_for.ensures, bad) refl))
@@ -56,9 +56,9 @@ bind-requires c =
     let is = met (IsSeen s) c.in_ok-viewed.viewed (seen c.args.how.now s it.0) (c.in_ok-viewed.ensures it.0 it.2) in
     may-bind-seen s c.in_ok-viewed.viewed.bound is.0 is.2.0
 
-pub returns : goal.returns
-returns c =
-    let at = (goal.at.returns c).In_ok-array in
+pub returns-clause-answers : goal.returns-clause-answers
+returns-clause-answers c =
+    let at = (goal.at.returns-clause-answers c).In_ok-array in
     let s = c.args.bench.now.state in
     let it = c.in_ok-array.ensures.1 in
     let is = met (IsSeen s) c.in_ok-viewed.viewed (seen c.args.how.now s it.0) (c.in_ok-viewed.ensures it.0 it.2) in

@@ -31,7 +31,7 @@ prepared : (s : State) (name : List ℕ) (index : List (IndexItem (List ℕ))) (
 unfolding write_outcome
 prepared s name index op value a part is all at few (Ok w) meets =
     let new = met (Leaves s name a part) w (new_items s (descr_of s a) part op value) meets in
-    record { bound = all; array = a; found = is; part = part; few = few; new = new.0; outcome = carries s name index op value a part new.0 is (others s name index value all) at new.1; leaves = new.2 }
+    record { bound = all; array = a; found = is; part = part; there = at; few = few; new = new.0; outcome = carries s name index op value a part new.0 is (others s name index value all) at new.1; leaves = new.2 }
 prepared s name index op value a part is all at few (Err e) meets =
     refused-or _ _ _ (new_items s (descr_of s a) part op value) all meets (λ bad choice. rw (is, others s name index value all, at, bad) refl)
 

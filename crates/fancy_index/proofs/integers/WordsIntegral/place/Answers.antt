@@ -2,7 +2,7 @@ use Rattle.std.proofs.Common.{◌∙◌, sym, ap, subst, arith}
 use Rattle.fancy_index.proofs.Words.{item_at, word, IsPlaceOf}
 use Rattle.fancy_index.proofs.RunLaws.{first-low, steps-low, steps-high, lies-there}
 use Rattle.fancy_index.proofs.WordLaws.{below-count, ends-there, word-there}
-use Rattle.fancy_index.proofs.positions.WordsIntegral.place.Goals as goal
+use Rattle.fancy_index.proofs.integers.WordsIntegral.place.Goals as goal
 
 pub offset_after-requires : goal.offset_after-requires
 offset_after-requires g c =

@@ -1,8 +1,8 @@
 use Rattle.std.proofs.Common.{◌≡◌, ◌+◌, ◌-◌, take, drop, length, sym, ap, ◌∙◌, arith}
 use Rattle.fancy_index.proofs.Words.{count, max_bytes, LieWithin-view, strides_along}
 use Rattle.fancy_index.proofs.AlongLaws.{axes-within, axes-made, length-along, along-shows}
-use Rattle.fancy_index.proofs.shift_columns.along.Goals as goal
-use Rattle.fancy_index.proofs.shift_columns.along.Goals.{In_ok-strides}
+use Rattle.fancy_index.proofs.along_axes.along.Goals as goal
+use Rattle.fancy_index.proofs.along_axes.along.Goals.{In_ok-strides}
 
 pub from_lengths-requires : goal.from_lengths-requires
 from_lengths-requires c =

@@ -1,6 +1,6 @@
 use Rattle.std.proofs.Common.{◌≡◌, ◌+◌, ◌++◌, ℕ, List, length, map, take, All}
 use Rattle.fancy_index.proofs.Words.{flat_map, item_size, offsets, run_offsets, number_from, LiesIn, ArePlaces}
-use Rattle.fancy_index.proofs.positions.put_all.Given as goal
+use Rattle.fancy_index.proofs.positions.put_runs.Given as goal
 
 abbrev pub invariant-loop-run : goal.invariant-loop-run
 invariant-loop-run g l = record {

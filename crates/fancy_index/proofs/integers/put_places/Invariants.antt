@@ -1,6 +1,6 @@
 use Rattle.std.proofs.Common.{◌≡◌, length, take}
 use Rattle.fancy_index.proofs.Words.{ArePlaces}
-use Rattle.fancy_index.proofs.positions.put_places.Given as goal
+use Rattle.fancy_index.proofs.integers.put_places.Given as goal
 
 abbrev pub invariant-loop-k : goal.invariant-loop-k
 invariant-loop-k g l = record {
