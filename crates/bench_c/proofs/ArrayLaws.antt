@@ -18,13 +18,13 @@ called-short s name short = rw (le-leb (length name) 32 short) refl
 
 found-one : (s : State) (name : List ℕ) (r : ArrayRef) (there : Option Array) → length name ≤ 32 → find_array s.names name ≡ there → Finds s there (Some r) → Looks s (array_called name s) (Ok r)
 found-one s name r (Some array) short is shows = (array, called-short s name short ∙ ap (λ o. ok_or o UnknownName) is, shows)
-found-one s name r None short is no = absurd no
+found-one s name r None short is never = absurd never
 
 pub looks-found : (s : State) (name : List ℕ) (r : ArrayRef) → length name ≤ 32 → Finds s (find_array s.names name) (Some r) → Looks s (array_called name s) (Ok r)
 looks-found s name r short shows = found-one s name r (find_array s.names name) short refl shows
 
 found-none : (s : State) (name : List ℕ) (there : Option Array) → length name ≤ 32 → find_array s.names name ≡ there → Finds s there None → array_called name s ≡ Err UnknownName
-found-none s name (Some array) short is no = absurd no
+found-none s name (Some array) short is never = absurd never
 found-none s name None short is _ = called-short s name short ∙ ap (λ o. ok_or o UnknownName) is
 
 pub looks-none : (s : State) (name : List ℕ) → length name ≤ 32 → Finds s (find_array s.names name) None → array_called name s ≡ Err UnknownName
