@@ -34,7 +34,7 @@ enum bench_status {
     BENCH_OK = 0,        /* Success. From bench_answer: the command was accepted. */
     BENCH_REFUSED = 1,   /* bench_answer and the calls for arrays: refused. The reply says why, and nothing changed. */
     BENCH_NOTHING = 2,   /* bench_answer: the line is blank or a comment. The reply is empty. */
-    BENCH_NO_MEMORY = 3, /* bench_open, bench_put and the calls for arrays: out of memory. Nothing changed. */
+    BENCH_NO_MEMORY = 3, /* bench_open, bench_put: out of memory. Nothing changed. */
     BENCH_TOO_LONG = 4,  /* bench_put: the file would be longer than 2^29 bytes. Nothing changed. */
     BENCH_NO_FILE = 5,   /* bench_get: there is no file with this name. bench_file: there is no further name. */
     BENCH_NO_ROOM = 6,   /* The buffer is too small. Nothing was copied, and *length is the length that is needed. */
@@ -77,8 +77,7 @@ int bench_get(struct bench_handle *bench, const void *name, size_t name_length, 
 int bench_file(struct bench_handle *bench, const void *name, size_t name_length, void *out, size_t room, size_t *length);
 
 /* The calls for arrays take the name of an array in place of a line. If they are refused, the status is BENCH_REFUSED, and the reply
- * says why, as that of a line does: "no E06 unknown name". Otherwise the reply is one of `info`, `save` or `load`, which these
- * calls make. They use the file bench_array, and leave it empty. */
+ * says why, as that of a line does: "no E06 unknown name", or "no E40 out of memory". Otherwise only bench_put_array changes it. */
 
 enum { BENCH_MAX_AXES = 64 };
 
@@ -86,7 +85,8 @@ enum { BENCH_MAX_AXES = 64 };
 struct bench_array {
     size_t axes;                  /* The number of axes. */
     size_t shape[BENCH_MAX_AXES]; /* The length of each axis. */
-    size_t items;                 /* The number of items, which is the product of the lengths. */
+    size_t items;                 /* The number of items, the product of the lengths. */
+    size_t item_size;             /* The number of bytes of an item. */
     int is_writable;              /* 0 if the array is read-only, as a broadcast one is. */
 };
 
@@ -105,8 +105,9 @@ int bench_items(struct bench_handle *bench, const void *name, size_t name_length
  * bench_reply does. It is what an NPY file has after its header. */
 int bench_get_array(struct bench_handle *bench, const void *name, size_t name_length, void *out, size_t room, size_t *length);
 
-/* Binds a name to a new array of this type, such as "<i4" (not a record), and this shape. `items` are its items in C order, as
- * bench_get_array copies them; BENCH_INVALID if `length` is not the number of their bytes. `undo` takes the binding back. */
+/* Binds a name to a new array of this type, such as "<i4" or the format of a record, and this shape. `items` are its items in C
+ * order, as bench_get_array copies them; if `length` is not the number of their bytes, the reply is "no E32 number of values".
+ * Otherwise it is that of a command, such as "ok a <i4 (2, 3) new". `undo` takes the binding back. */
 int bench_put_array(struct bench_handle *bench, const void *name, size_t name_length, const void *type, size_t type_length,
                     const size_t *shape, size_t axes, const void *items, size_t length);
 

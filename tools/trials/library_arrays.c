@@ -97,6 +97,7 @@ static void asked(void)
 {
     line("a = array >i2 (2,3) 1 -2 3 4 500 -32768");
     is("a", ">i2", 2, SHAPE(2, 3), 1);
+    assert(array.item_size == 2);
     has("a", 6, ITEMS(1, -2, 3, 4, 500, -32768));
     has_bytes("a", 12, "\0\1\xff\xfe\0\3\0\4\1\xf4\x80\0");
     line("t = transpose a (1,0)");
@@ -146,8 +147,11 @@ static void given(void)
     put("h", "|S2", 1, SHAPE(2), "abcd", 4);
     put("h", "<i8", 3, SHAPE(2, 0, 5), "", 0);
     is("h", "<i8", 3, SHAPE(2, 0, 5), 1);
-    assert(bench_put_array(&bench, "g", 1, "<i4", 3, SHAPE(2), 1, "\0\0\0\0", 4) != BENCH_OK);
-    assert(bench_put_array(&bench, "g", 1, "<i4", 3, SHAPE(1), 1, "\0\0\0\0\0\0\0\0", 8) != BENCH_OK);
+    put("h", "T{<i:x:>h:y:}", 1, SHAPE(2), "\1\0\0\0\0\2\3\0\0\0\0\4", 12);
+    assert(replies("ok h T{<i:x:>h:y:} (2,) new"));
+    MADE(BENCH_REFUSED, bench_put_array(&bench, "g", 1, "<i4", 3, SHAPE(2), 1, "\0\0\0\0", 4));
+    MADE(BENCH_REFUSED, bench_put_array(&bench, "g", 1, "<i4", 3, SHAPE(1), 1, "\0\0\0\0\0\0\0\0", 8));
+    assert(replies("no E32 number of values"));
     MADE(BENCH_REFUSED, bench_put_array(&bench, "g", 1, "<f4", 3, SHAPE(1), 1, "\0\0\0\0", 4));
     assert(replies("no E05 descriptor left out"));
     MADE(BENCH_REFUSED, bench_put_array(&bench, "g", 1, "i'4", 3, SHAPE(1), 1, "\0\0\0\0", 4));

@@ -1,4 +1,9 @@
+pub mod ArrayCalls
+pub mod Arrays
 pub mod Benches
 pub mod Calls
+pub mod Clauses
 pub mod Held
 pub mod Statuses
+pub mod Words
+pub mod inside

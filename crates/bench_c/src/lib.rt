@@ -8,7 +8,10 @@ ghost use Rattle.std.specs.Prelude.{◌≡◌, ◌≤◌, ◌++◌, IsSome, IfOk
 ghost use Rattle.bench_c.specs.Benches.{IsJustOpened};
 ghost use Rattle.bench_c.specs.Calls.{Opens, AnswersBehind, PutsBehind, GivesReply, GivesFile, GivesNextName};
 
+mod array_calls;
+mod asked;
 mod copying;
+mod given;
 mod handle;
 mod open_bench;
 mod parts;

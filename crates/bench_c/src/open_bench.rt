@@ -11,7 +11,7 @@ use std::alloc::{AllocError, Global};
 /// A bench with its files in memory, and the reply to its last line.
 #[derive(Drop)]
 pub struct OpenBench {
-    bench: Bench,
+    pub(crate) bench: Bench,
     pub(crate) files: MemStore,
     pub(crate) reply: ReplyText,
 }

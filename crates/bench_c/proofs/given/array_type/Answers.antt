@@ -1,0 +1,30 @@
+use Rattle.std.proofs.Common.{◌≡◌, ◌*◌, inr, arith, refl}
+use Rattle.bench_c.proofs.Facts.{le-leb, lt-leb}
+use Rattle.bench_c.proofs.Facts.{err_from_is_err_and}
+use Rattle.bench_c.specs.Words.{descriptor, item_size, max_bytes, count, shape_of, array_type}
+use Rattle.bench_engine.proofs.Makes.{passed}
+use Rattle.bench_c.proofs.given.array_type.Goals as goal
+
+pub returns-in_err-descr-clause-value : goal.returns-in_err-descr-clause-value
+unfolding array_type
+returns-in_err-descr-clause-value c =
+    let p = err_from_is_err_and c.from_residual.result c.from_residual.ensures.1 in
+    rw (p.1, p.2) (passed (descriptor c.args.descr.now) _ _ (λ bad. rw bad refl) c.in_err-descr.ensures)
+
+pub returns-in_err-shape-clause-value : goal.returns-in_err-shape-clause-value
+unfolding array_type
+returns-in_err-shape-clause-value c =
+    let p = err_from_is_err_and c.from_residual-in_err-shape.result c.from_residual-in_err-shape.ensures.1 in
+    rw (p.1, p.2) (passed (shape_of c.args.lengths.now) _ _ (λ bad. rw (c.in_ok-descr.ensures, bad) refl) c.in_err-shape.ensures)
+
+pub returns-then-items-size-gt-MAX_BYTES-clause-value : goal.returns-then-items-size-gt-MAX_BYTES-clause-value
+unfolding array_type
+returns-then-items-size-gt-MAX_BYTES-clause-value c =
+    let bytes : c.items.result * c.size.result ≡ count c.in_ok-shape.shape * item_size c.in_ok-descr.descr = cc in
+    inr (rw (c.in_ok-descr.ensures, c.in_ok-shape.ensures, lt-leb (count c.in_ok-shape.shape * item_size c.in_ok-descr.descr) max_bytes (omega arith)) refl)
+
+pub returns-clause-value : goal.returns-clause-value
+unfolding array_type
+returns-clause-value c =
+    let bytes : c.items.result * c.size.result ≡ count c.in_ok-shape.shape * item_size c.in_ok-descr.descr = cc in
+    rw (c.in_ok-descr.ensures, c.in_ok-shape.ensures, le-leb (count c.in_ok-shape.shape * item_size c.in_ok-descr.descr) max_bytes (omega arith)) refl
