@@ -80,10 +80,10 @@ bytes-done : (s : State) (a : Array) (r : ArrayRef) (descr : Descr) (o : Owned) 
 unfolding bytes_as
 bytes-done s a r descr o shows can few typed items encoded =
     rw (cast-some s a descr (ap (λ (d : Descr). can_cast d descr) shows.descr ∙ can), le-leb (count a.shape * item_size descr) max_bytes fits) (ap Ok (
-      (λ i. flat_map (encode_item descr) (map (cast_item (shows.descr i) descr) (shows.reads i)))
-      ∙ ap (flat_map (encode_item descr)) (map-map (cast_item r.descr.now descr) (item_from r.descr.now r.block.now) (offsets r.layout.now) ∙ sym items)
-      ∙ (λ i. flat_map (encode_item (sym typed i)) (map (item_from (sym typed i) o.block) (offsets o.layout)))
-      ∙ sym encoded))
+    (λ i. flat_map (encode_item descr) (map (cast_item (shows.descr i) descr) (shows.reads i)))
+    ∙ ap (flat_map (encode_item descr)) (map-map (cast_item r.descr.now descr) (item_from r.descr.now r.block.now) (offsets r.layout.now) ∙ sym items)
+    ∙ (λ i. flat_map (encode_item (sym typed i)) (map (item_from (sym typed i) o.block) (offsets o.layout)))
+    ∙ sym encoded))
   where
     fits : count a.shape * item_size descr ≤ max_bytes
     fits = subst (λ (l : List ℕ). count l * item_size descr ≤ max_bytes) shows.view.laid.shape few

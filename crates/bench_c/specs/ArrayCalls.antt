@@ -40,4 +40,4 @@ put_outcome choice s name contents = named name >>= (λ name. creation_outcome c
 pub record PutsArray (name : List ℕ) (contents : Result Contents Refusal) (old new : OpenBench) (status : Status) : Type 0 where
   pub files : new.files ≡ old.files
   pub puts : ((choice : Choice) × IsAllowed old.bench.state choice × (put_outcome choice old.bench.state name contents ≡ accepted_with new.bench.state new.reply) × (status ≡ Done))
-    ⊎ ((refused : Refusal) × ((refused ≡ OutOfMemory) ⊎ ((choice : Choice) → put_outcome choice old.bench.state name contents ≡ Err refused)) × (new.bench.state ≡ old.bench.state) × (new.reply ≡ refusal_text refused) × (status ≡ Refused))
+      ⊎ ((refused : Refusal) × ((refused ≡ OutOfMemory) ⊎ ((choice : Choice) → put_outcome choice old.bench.state name contents ≡ Err refused)) × (new.bench.state ≡ old.bench.state) × (new.reply ≡ refusal_text refused) × (status ≡ Refused))
