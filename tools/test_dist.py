@@ -1,6 +1,7 @@
 """The gate refuses a library and a program in WebAssembly that are not those of the sources, whatever sums dist/SHA256SUMS has. What is linked
 for aarch64 by the toolchain alone runs in qemu-user, where that is installed."""
 import pathlib
+import re
 import shutil
 import subprocess
 import sys
@@ -18,8 +19,9 @@ import machines  # noqa: E402
 import module  # noqa: E402
 import sources  # noqa: E402
 
-# What stands for bench_c: its calls, which answer a number.
-CALLS = "".join(f"unsigned char bench_c_{call}(void *handle) {{ return handle ? {number} : 0; }}\n" for number, call in enumerate(page.CALLS, 1))
+# What stands for bench_c: the calls that library/bench.c declares, which answer a number.
+DECLARED = re.findall(r"^(?:uint8_t|void) bench_c_(\w+)\(", (TOP / "library/bench.c").read_text(), re.M)
+CALLS = "".join(f"unsigned char bench_c_{call}(void *handle) {{ return handle ? {number} : 0; }}\n" for number, call in enumerate(DECLARED, 1))
 WHY = "is not what these sources and this toolchain give: run `make`, `make page`, then `make dist`"
 
 

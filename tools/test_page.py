@@ -323,7 +323,7 @@ class InBrowser:
             bench.run(["x = arange <i8 0 4 1", 'save x "x.npy"'])
             data = pathlib.Path(folder, "x.npy").read_bytes()
             page = self.typed(self.page(folder=folder), 'y = load "x.npy"\nset y[0] = 9\nsave y "y.npy"')
-            self.assertEqual(page.ask(BESIDE)[0], "E34 no such file: there is no file of that name")
+            self.assertEqual(page.ask(BESIDE)[0], "E34 no such file: there are no files: Open files, or drop them on the page")
             page.ask(f"(() => {{ const held = new DataTransfer(); held.items.add(new File([Uint8Array.from(atob('{coded(data)}'), c => c.charCodeAt(0))], 'x.npy')); dispatchEvent(new DragEvent('drop', {{ dataTransfer: held }})); }})()")
             page.wait("bench.saved.length && document.querySelectorAll('#files .saved').length")
             page.ask("document.querySelector('#files .saved').click()")
