@@ -147,8 +147,9 @@ static void given(void)
     put("h", "|S2", 1, SHAPE(2), "abcd", 4);
     put("h", "<i8", 3, SHAPE(2, 0, 5), "", 0);
     is("h", "<i8", 3, SHAPE(2, 0, 5), 1);
-    put("h", "T{<i:x:>h:y:}", 1, SHAPE(2), "\1\0\0\0\0\2\3\0\0\0\0\4", 12);
+    MADE(BENCH_OK, bench_put_array(&bench, "h", 1, "T{<i:x:>h:y:}", 13, SHAPE(2), 1, "\1\0\0\0\0\2\3\0\0\0\0\4", 12));
     assert(replies("ok h T{<i:x:>h:y:} (2,) new"));
+    has_bytes("h", 12, "\1\0\0\0\0\2\3\0\0\0\0\4");
     MADE(BENCH_REFUSED, bench_put_array(&bench, "g", 1, "<i4", 3, SHAPE(2), 1, "\0\0\0\0", 4));
     MADE(BENCH_REFUSED, bench_put_array(&bench, "g", 1, "<i4", 3, SHAPE(1), 1, "\0\0\0\0\0\0\0\0", 8));
     assert(replies("no E32 number of values"));
