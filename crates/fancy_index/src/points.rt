@@ -1,11 +1,13 @@
 //! Points on some axes: the points of an integer, of an array of integers and of a mask.
 ghost use Rattle.std.specs.Prelude.{All, IfErr, IfOk, [], length, true, ◌∷◌, ◌≡◌, ◌≢◌, ◌≤◌};
-ghost use Rattle.fancy_index.specs.Clauses.{covers, is_within, item_axes, parts_of, is_place, max_items, Integers, Mask, NoIndex, IsOutside, IsWithin, array_item, kind_in, IsPart, are_named, place_of, ranks_of, true_ranks};
+ghost use Rattle.fancy_index.specs.Clauses.{covers, is_within, item_axes, parts_of, is_place, max_items, Integers, Mask, NoIndex, IsOutside, IsWithin, array_item, kind_in, IsPart, are_named, numbers_in, place_of, ranks_of, true_ranks};
 
 use crate::integers::Named;
 use crate::kinds::{Kind, kind_of};
 use crate::masks::true_ranks;
 use crate::positions::places;
+use crate::stored_mask::StoredMask;
+use crate::tuning::FEW_RANKS;
 use arrays::Items;
 use elem_descr::Refusal;
 use smallvec::SmallVec;
@@ -13,12 +15,13 @@ use std::alloc::{AllocError, Global};
 use std::mem;
 use view_ops::{from_front, is_place};
 
-/// The ranks of points: either stored, or the indexes in an array, which is read when they are
-/// needed.
+/// The ranks of points: either stored, or those of an array of integers or a mask, which is read
+/// when they are needed.
 #[derive(Drop)]
 pub(crate) enum Ranks<'a> {
     Held(Vec<u32>),
     Unread(Named<'a>),
+    Masked(StoredMask<'a>),
 }
 
 /// The positions that one index array selects: its shape, and a flat index for each.
@@ -39,6 +42,7 @@ impl Ranks<'_> {
         match self {
             Ranks::Held(ranks) => Ok(mem::replace(ranks, Vec::new(alloc))),
             Ranks::Unread(named) => places(alloc, *named),
+            Ranks::Masked(mask) => Ok(true_ranks(alloc, mask.array)?),
         }
     }
 }
@@ -87,6 +91,23 @@ pub(crate) fn integer_point(
     Ok(PointList::try_new(alloc, &[], &[n], Ranks::Held(ranks))?)
 }
 
+/// How many bools of a mask are true, and their ranks. If they are many, they are read again when
+/// they are needed.
+fn mask_ranks<'a>(alloc: Global, array: Items<'a>) -> Result<(usize, Ranks<'a>), AllocError>
+    requires kind { kind_in array ≡ Mask }
+    ensures many { IfOk result (λ counted. counted.0 ≡ length (ranks_of counted.1)) }
+    ensures named { IfOk result (λ counted. are_named counted.1 ≡ true) }
+    ensures ranks { IfOk result
+        (λ counted. ranks_of counted.1 ≡ true_ranks 0 (numbers_in array.entry)) }
+{
+    let ranks = true_ranks(alloc, array)?;
+    let many = ranks.len();
+    if many > FEW_RANKS {
+        return Ok((many, Ranks::Masked(StoredMask { array })));
+    }
+    Ok((many, Ranks::Held(ranks)))
+}
+
 /// The points of an array on the axes that it takes, or the refusal of a number. An array of integers
 /// is not read yet, but if its axis is empty, any number is refused.
 pub(crate) fn array_points<'a>(
@@ -104,8 +125,8 @@ pub(crate) fn array_points<'a>(
 {
     match kind_of(array) {
         Kind::Mask => {
-            let ranks = true_ranks(alloc, array)?;
-            Ok(PointList::try_new(alloc, &[ranks.len()], axes, Ranks::Held(ranks))?)
+            let counted = mask_ranks(alloc, array)?;
+            Ok(PointList::try_new(alloc, &[counted.0], axes, counted.1)?)
         }
         Kind::Integers => {
             let n = axes[0];

@@ -23,3 +23,6 @@ pub(crate) const NEAR_STEPS: usize = 128;
 
 /// So many items, each in a cache line of its own, stay in the cache.
 pub(crate) const CACHED_ITEMS: usize = 4096;
+
+/// More ranks of a mask than these are not stored, so that many masks take little memory.
+pub(crate) const FEW_RANKS: usize = 1 << 20;
