@@ -34,7 +34,7 @@ sends-then a b c rest rest' text first second =
 pub sends-more : (a b c : Option (List ℕ)) (held held' held'' x y : List ℕ) → Sends a b held' (held ++ x) → Sends b c held'' (held' ++ y) → Sends a c held'' (held ++ (x ++ y))
 sends-more a b c held held' held'' x y first second =
     let grown : Sends a b (held' ++ y) (held ++ (x ++ y)) =
-        (first.0, sym (append_assoc held x y) ∙ ap (λ t. t ++ y) first.1 ∙ append_assoc first.0 held' y, first.2) in
+    (first.0, sym (append_assoc held x y) ∙ ap (λ t. t ++ y) first.1 ∙ append_assoc first.0 held' y, first.2) in
     sends-then a b c (held' ++ y) held'' (held ++ (x ++ y)) grown second
 
 -- a fault in a text, or in what comes after it

@@ -54,11 +54,7 @@ pub fn send<W: Write>(writer: &mut W, bytes: &[u8]) -> Result<(), WriteFault>
 }
 
 /// Appends bytes to an empty text. If they are more than its room, they are sent at once.
-fn push_first<W: Write>(
-    writer: &mut W,
-    out: &mut Vec<u8>,
-    bytes: &[u8],
-) -> Result<(), WriteFault>
+fn push_first<W: Write>(writer: &mut W, out: &mut Vec<u8>, bytes: &[u8]) -> Result<(), WriteFault>
     requires { out.old.items ≡ [] }
     ensures { Pushes bytes.now result (W.contents writer.old) (W.contents writer.new) out.old out.new }
 {
@@ -71,11 +67,7 @@ fn push_first<W: Write>(
 
 /// Appends bytes to the text that is held. If there is no room for them, it is sent first. No memory
 /// is asked for.
-pub fn push<W: Write>(
-    writer: &mut W,
-    out: &mut Vec<u8>,
-    bytes: &[u8],
-) -> Result<(), WriteFault>
+pub fn push<W: Write>(writer: &mut W, out: &mut Vec<u8>, bytes: &[u8]) -> Result<(), WriteFault>
     ensures { Pushes bytes.now result (W.contents writer.old) (W.contents writer.new) out.old out.new }
 {
     if out.capacity().saturating_sub(out.len()) >= bytes.len() {

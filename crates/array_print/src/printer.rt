@@ -111,11 +111,7 @@ fn push_record<W: Write>(
 }
 
 /// Appends the text of one item.
-fn push_item<W: Write>(
-    writer: &mut W,
-    out: &mut Vec<u8>,
-    item: Item<'_>,
-) -> Result<(), WriteFault>
+fn push_item<W: Write>(writer: &mut W, out: &mut Vec<u8>, item: Item<'_>) -> Result<(), WriteFault>
     requires { IsItemAt item.items item.offset }
     ensures { Pushes (text_at item.entry.items item.entry.offset) result
         (W.contents writer.old) (W.contents writer.new) out.old out.new }

@@ -8,7 +8,7 @@ pub returns-in_err-send : goal.returns-in_err-send
 returns-in_err-send g c =
     let part = c.in_err-send.ensures.err in
     let fault : SendsPart (g.W.Write.contents c.args.writer.now) (g.W.Write.contents c.send.new.writer) (c.args.out.now.items ++ c.args.bytes.now) =
-        (part.1 ++ c.args.bytes.now, (part.0, ap (λ t. t ++ c.args.bytes.now) (sym c.as_slice.ensures.value ∙ part.2) ∙ append_assoc part.0 part.1 c.args.bytes.now, part.4)) in
+    (part.1 ++ c.args.bytes.now, (part.0, ap (λ t. t ++ c.args.bytes.now) (sym c.as_slice.ensures.value ∙ part.2) ∙ append_assoc part.0 part.1 c.args.bytes.now, part.4)) in
     record {
       ok = search rules;
       err = failed _ fault;

@@ -120,7 +120,7 @@ push_record-returns-in_err-push-3-clause-text g t c =
     let leaves = texts_at c.args.item.items.descr.now c.args.item.items.widths.now c.args.item.items.block.now c.args.item.offset in
     let texts = field_texts (listed c.args.fields.now) (drop c.args.k leaves) in
     let many = length-field_texts c.args.fields.now (drop c.args.k leaves) in
-    let whole = whole-record _ c.args.out.now.items texts c.loop-i.i (length c.args.fields.now) (omega (arith, many, c.loop-i-test.false, c.loop-i.auto.i-end)) (omega (arith, many)) in
+    let whole = whole-record (g.W.Write.contents c.args.writer.now) c.args.out.now.items texts c.loop-i.i (length c.args.fields.now) (omega (arith, many, c.loop-i-test.false, c.loop-i.auto.i-end)) (omega (arith, many)) in
     let end = subst (λ t. SendsPart (g.W.Write.contents c.loop-i.writer) (g.W.Write.contents c.push-2.new.writer) (c.loop-i.out.items ++ t)) c.record_end.ensures c.in_err-push-3.ensures.err in
     record {
       ok = search rules;
@@ -133,7 +133,7 @@ push_record-returns-clause-text g t c =
     let leaves = texts_at c.args.item.items.descr.now c.args.item.items.widths.now c.args.item.items.block.now c.args.item.offset in
     let texts = field_texts (listed c.args.fields.now) (drop c.args.k leaves) in
     let many = length-field_texts c.args.fields.now (drop c.args.k leaves) in
-    let whole = whole-record _ c.args.out.now.items texts c.loop-i.i (length c.args.fields.now) (omega (arith, many, c.loop-i-test.false, c.loop-i.auto.i-end)) (omega (arith, many)) in
+    let whole = whole-record (g.W.Write.contents c.args.writer.now) c.args.out.now.items texts c.loop-i.i (length c.args.fields.now) (omega (arith, many, c.loop-i-test.false, c.loop-i.auto.i-end)) (omega (arith, many)) in
     let end = subst (λ t. Sends (g.W.Write.contents c.loop-i.writer) (g.W.Write.contents c.push-2.new.writer) c.push-2.new.out.items (c.loop-i.out.items ++ t)) c.record_end.ensures c.in_ok-push-3.ensures.ok in
     record {
       ok = subst (λ t. Sends (g.W.Write.contents c.args.writer.now) (g.W.Write.contents c.push-2.new.writer) c.push-2.new.out.items (c.args.out.now.items ++ t)) whole (sends-more _ _ _ _ _ _ _ _ c.loop-i.invariant.sent end);

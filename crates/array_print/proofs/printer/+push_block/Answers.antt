@@ -141,5 +141,5 @@ returns-then-axis-lengths g t c =
     let f = shown c.args.items.now.descr.now c.args.items.now.widths.now c.args.items.now.block.now in
     let end : length l.shape ≤ c.args.axis = omega (arith, c.if-axis-lengths.true, ap length c.as_slice-lengths.ensures.value) in
     let text : f c.args.offset ≡ block_text c.args.axis (drop c.args.axis l.shape) (map f (part_offsets l c.args.axis c.args.offset)) =
-        sym (ap (λ os. block_text c.args.axis (drop c.args.axis l.shape) (map f os)) (part-item l c.args.axis c.args.offset end) ∙ ap (λ shape. block_text c.args.axis shape (f c.args.offset ∷ [])) (drop_all c.args.axis l.shape end)) in
+    sym (ap (λ os. block_text c.args.axis (drop c.args.axis l.shape) (map f os)) (part-item l c.args.axis c.args.offset end) ∙ ap (λ shape. block_text c.args.axis shape (f c.args.offset ∷ [])) (drop_all c.args.axis l.shape end)) in
     subst (λ t. Pushes t c.push_item.result (g.W.Write.contents c.args.writer.now) (g.W.Write.contents c.push_item.new.writer) c.args.out.now c.push_item.new.out) text c.push_item.ensures

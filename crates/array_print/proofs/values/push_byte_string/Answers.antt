@@ -22,8 +22,8 @@ cut : (w w' : Option (List ℕ)) (old bytes : List ℕ) (k : ℕ) → SendsPart 
 cut w w' old bytes k part =
     let rest = flat_map escaped (drop k bytes) in
     let whole : so_far bytes k ++ (rest ++ codes "'") ≡ codes "b'" ++ flat_map escaped bytes ++ codes "'" =
-        sym (append_assoc (so_far bytes k) rest (codes "'"))
-        ∙ ap (λ t. (codes "b'" ++ t) ++ codes "'") (sym (flat_map-append escaped (take k bytes) (drop k bytes)) ∙ ap (flat_map escaped) (take-append-drop k bytes)) in
+    sym (append_assoc (so_far bytes k) rest (codes "'"))
+    ∙ ap (λ t. (codes "b'" ++ t) ++ codes "'") (sym (flat_map-append escaped (take k bytes) (drop k bytes)) ∙ ap (flat_map escaped) (take-append-drop k bytes)) in
     subst (λ t. SendsPart w w' (old ++ t)) whole (part-longer w w' old (so_far bytes k) (rest ++ codes "'") part)
 
 pub returns-in_err-push : goal.returns-in_err-push
