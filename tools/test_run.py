@@ -88,7 +88,7 @@ class Runs(InFolder):
                 self.compare(script)
 
     def test_random_scripts(self):
-        for number in range(share(40, 1000)):
+        for number in range(share(25, 1000)):
             with self.subTest(number):
                 self.compare(scripts.random_script(PROGRAM, random.Random(f"run {number}"), number))
 
