@@ -43,10 +43,10 @@ def name_of(test):
 
 
 def batches(tests):
-    """The names of tests that run one after another: each test alone, but those of a class that opens a browser in two halves."""
+    """The names of tests that run one after another: each test alone, but those of a class that opens a browser together."""
     found = {}
-    for number, test in enumerate(tests):
-        found.setdefault((type(test), number % 2) if hasattr(test, "OPENS") else name_of(test), []).append(name_of(test))
+    for test in tests:
+        found.setdefault(type(test) if hasattr(test, "OPENS") else name_of(test), []).append(name_of(test))
     return list(found.values())
 
 
