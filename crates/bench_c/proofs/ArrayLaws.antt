@@ -1,7 +1,7 @@
 -- What is asked about the array of a name.
 use Rattle.std.proofs.Common.{◌≡◌, ◌⊎◌, ◌≤◌, ◌<◌, ◌*◌, ℕ, List, length, map, true, false, nat_le, Option, Some, None, Result, Ok, Err, IfOk, IfErr, if◌then◌else◌, refl, sym, ap, ◌∙◌, subst, inl, inr}
 use Rattle.bench_c.proofs.Facts.{le-leb, lt-leb, map-map}
-use Rattle.bench_engine.proofs.Casts.{cast-none, cast-some}
+use Rattle.bench_engine.specs.NewArrayLaws.{cast-none, cast-some}
 use Rattle.bench_c.specs.Words.{array_of, descr_text, cast_items, can_cast, cast_item, Gives, Refusal, OutOfMemory, NoSuchCast, TooLarge, UnknownName, Descr, item_size, item_from, encode_item, Owned, owned_items, offsets, ok_or, Array, ArrayRef, State, Shows, Finds, descr_of, find_array, read, count, max_bytes, flat_map}
 use Rattle.bench_c.specs.Arrays.{array_called, bytes_as, info_called, int64, items_called, numbers_called, shape_called, type_called}
 use Rattle.bench_c.specs.inside.Arrays.{Looks}

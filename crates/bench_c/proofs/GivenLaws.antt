@@ -1,15 +1,14 @@
 -- Arrays that are given, and names that are bound to them.
-use Rattle.std.proofs.Common.{◌≡◌, ◌≢◌, ◌⊎◌, ◌≤◌, ◌*◌, ◌<◌, ◌++◌, ℕ, List, [], ◌∷◌, length, map, codes, true, false, Bool, Option, Some, None, Result, Ok, Err, refl, sym, ap, ◌∙◌, subst, inl, inr, arith}
+use Rattle.std.proofs.Common.{◌≡◌, ◌≢◌, ◌⊎◌, ◌≤◌, ◌*◌, ◌<◌, ◌++◌, ℕ, List, [], length, codes, true, false, Result, Ok, Err, refl, sym, ap, ◌∙◌, inl, inr}
 use Rattle.bench_c.proofs.Facts.{eq-eqb, le-leb, lt-leb, ne_eqb}
-use Rattle.bench_c.specs.Words.{accepted_with, array_over, array_type, bound_new, bound_text, bound_to, creation_outcome, new_contents, Contents, Choice, Gives, Answers, Refusal, OutOfMemory, ByteNotAllowed, Syntax, NumberOfValues, TooManyNames, Descr, item_size, items_in, Owned, offsets, offsets_in, places_of, C, State, has_room_for, AnswersBind, Fresh, count, range_with_len, Line, line_of, asks, bad_byte, misspelt, silent, Command, Ask, Bind, Delete, Save, Set, Undo, Update}
+use Rattle.bench_c.specs.Words.{array_type, bound_text, creation_outcome, Contents, Choice, Gives, Answers, Refusal, OutOfMemory, Syntax, NumberOfValues, TooManyNames, Descr, item_size, items_in, Owned, offsets, offsets_in, C, State, has_room_for, AnswersBind, Fresh, count, Line, line_of, asks, Command, Ask, Bind, Delete, Save, Set, Undo, Update}
 use Rattle.bench_engine.specs.declared.replies.Origin.TheVariants as origin
 use Rattle.script_lang.specs.Reading.{Says}
 use Rattle.bench_c.specs.Arrays.{deleted, given_contents, named}
 use Rattle.bench_c.specs.ArrayCalls.{put_outcome}
 use Rattle.bench_engine.specs.inside.Contract.{CarriesOut}
 use Rattle.bench_engine.specs.inside.OwnContents.{held}
-use Rattle.bench_engine.proofs.Creates.{creation-refused, made-answers, new-answers, same-answers}
-use Rattle.bench_engine.proofs.Makes.{held-is, in-order}
+use Rattle.bench_engine.specs.NewArrayLaws.{creation-refused, held-is, in-order, made-answers, new-answers, same-answers}
 
 -- ---- names
 

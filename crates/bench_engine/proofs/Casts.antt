@@ -1,17 +1,10 @@
 -- Arrays that are cast.
 use Rattle.std.proofs.Common.{◌≡◌, ◌⊎◌, ◌≤◌, ◌*◌, ℕ, nat_le, true, false, List, map, refl, sym, ap, ◌∙◌, subst, if◌then◌else◌, Result, Ok, Err, IfOk, IfErr, inl, inr}
-use Rattle.bench_engine.proofs.Words.{le-leb, map-map, Refusal, OutOfMemory, TooLarge, NoSuchCast, Gives, descriptor, Descr, item_size, item_from, can_cast, cast_item, C, max_bytes, count, offsets, Owned, offsets_in, State, descr_of, read, Shows, ArrayRef, Array, new_contents, held, cast_items, cast_contents}
+use Rattle.bench_engine.proofs.Words.{le-leb, map-map, Refusal, OutOfMemory, TooLarge, NoSuchCast, Gives, descriptor, Descr, item_size, item_from, can_cast, cast_item, C, max_bytes, count, offsets, Owned, offsets_in, State, Shows, ArrayRef, Array, new_contents, held, cast_contents}
+use Rattle.bench_engine.specs.NewArrayLaws.{cast-none, cast-some}
 use Rattle.bench_engine.proofs.Copies.{made-held}
 
 -- ---- the array that is made
-
-pub cast-none : (s : State) (a : Array) (descr : Descr) → can_cast (descr_of s a) descr ≡ false → cast_items s a descr ≡ Err NoSuchCast
-unfolding cast_items
-cast-none s a descr none = rw none refl
-
-pub cast-some : (s : State) (a : Array) (descr : Descr) → can_cast (descr_of s a) descr ≡ true → cast_items s a descr ≡ Ok (map (cast_item (descr_of s a) descr) (read s a))
-unfolding cast_items
-cast-some s a descr can = rw can refl
 
 cast-held : (s : State) (a : Array) (r : ArrayRef) (text : List ℕ) (descr : Descr) (o : Owned) → Shows s a r → descriptor text ≡ Ok descr → can_cast r.descr.now descr ≡ true → count r.layout.now.shape * item_size descr ≤ max_bytes → o.descr ≡ descr → o.layout.shape ≡ r.layout.now.shape →
     offsets o.layout ≡ offsets_in C (item_size descr) r.layout.now.shape → map (item_from descr o.block) (offsets o.layout) ≡ map (λ offset. cast_item r.descr.now descr (item_from r.descr.now r.block.now offset)) (offsets r.layout.now) →

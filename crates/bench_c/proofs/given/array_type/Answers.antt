@@ -2,7 +2,7 @@ use Rattle.std.proofs.Common.{◌≡◌, ◌*◌, inr, arith, refl}
 use Rattle.bench_c.proofs.Facts.{le-leb, lt-leb}
 use Rattle.bench_c.proofs.Facts.{err_from_is_err_and}
 use Rattle.bench_c.specs.Words.{descriptor, item_size, max_bytes, count, shape_of, array_type}
-use Rattle.bench_engine.proofs.Makes.{passed}
+use Rattle.bench_engine.specs.NewArrayLaws.{passed}
 use Rattle.bench_c.proofs.given.array_type.Goals as goal
 
 pub returns-in_err-descr-clause-value : goal.returns-in_err-descr-clause-value

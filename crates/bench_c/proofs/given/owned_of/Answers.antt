@@ -3,7 +3,7 @@ use Rattle.bench_c.proofs.Facts.{err_from_is_err_and}
 use Rattle.bench_c.specs.Words.{item_size, count, array_type}
 use Rattle.bench_c.specs.Arrays.{given_contents}
 use Rattle.bench_c.proofs.GivenLaws.{given-number, given-done}
-use Rattle.bench_engine.proofs.Makes.{passed}
+use Rattle.bench_engine.specs.NewArrayLaws.{passed}
 use Rattle.bench_c.proofs.given.owned_of.Goals as goal
 
 pub returns-in_err-descr : goal.returns-in_err-descr

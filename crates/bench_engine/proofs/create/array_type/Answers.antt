@@ -1,6 +1,6 @@
 use Rattle.std.proofs.Common.{◌≡◌, ◌*◌, inr, arith, refl}
 use Rattle.bench_engine.proofs.Words.{le-leb, lt-leb, err_from_is_err_and, descriptor, item_size, max_bytes, count, shape_of, array_type}
-use Rattle.bench_engine.proofs.Makes.{passed}
+use Rattle.bench_engine.specs.NewArrayLaws.{passed}
 use Rattle.bench_engine.proofs.create.array_type.Goals as goal
 
 pub returns-in_err-descr-clause-value : goal.returns-in_err-descr-clause-value

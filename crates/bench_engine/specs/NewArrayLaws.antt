@@ -1,7 +1,53 @@
--- A name bound to a new array.
-use Rattle.std.proofs.Common.{subst, IsTrue, ◌≡◌, ℕ, Bool, true, false, List, refl, sym, ap, ◌∙◌, Result, Ok, Err, ◌⊎◌, inl, inr}
-use Rattle.bench_engine.proofs.Words.{Refusal, OutOfMemory, Owned, State, has_room_for, bound_to, AnswersBind, Fresh, Contents, array_over, held, IsRefused, CarriesOut, Choice, Outcome, creation_outcome, bound_new, accepted_with, Origin, bound_text}
+-- Laws of new arrays: their contents, items that are cast, and names that are bound to them.
+use Rattle.std.specs.Prelude.{◌≡◌, ◌*◌, ◌<◌, ◌⊎◌, ℕ, Bool, IsTrue, List, [], ◌∷◌, Result, Ok, Err, map}
+use Rattle.std.proofs.Common.{true, false, refl, sym, ap, ◌∙◌, subst, inl, inr, arith}
+use Rattle.std.proofs.Math.Nat.{mul-div_cancel_left}
+use Rattle.bench_engine.specs.Words.{range_with_len, Refusal, OutOfMemory, NoSuchCast, Descr, item_size, items_in, LeafValue, C, count, offsets, Owned, offsets_in, places_of, can_cast, cast_item, State, Array, descr_of, read, has_room_for, bound_to, AnswersBind, Fresh}
+use Rattle.bench_engine.specs.Contents.{Contents, array_over, new_contents}
+use Rattle.bench_engine.specs.Replies.{bound_text}
+use Rattle.bench_engine.specs.Machine.{Choice, Outcome, accepted_with, bound_new, cast_items, creation_outcome}
+use Rattle.bench_engine.specs.declared.replies.Origin.{Origin}
 use Rattle.bench_engine.specs.declared.replies.Origin.TheVariants as origin
+use Rattle.bench_engine.specs.inside.Contract.{CarriesOut, IsRefused}
+use Rattle.bench_engine.specs.inside.OwnContents.{IsInCOrder, held}
+
+-- ---- contents
+
+-- a refusal that is passed on
+pub passed : {X Y : Type 0} (x : Result X Refusal) (y : Result Y Refusal) (e : Refusal) → (x ≡ Err e → y ≡ Err e) → (e ≡ OutOfMemory) ⊎ (x ≡ Err e) → (e ≡ OutOfMemory) ⊎ (y ≡ Err e)
+passed x y e on (inl lacks) = inl lacks
+passed x y e on (inr is) = inr (on is)
+
+pub divided : (item : ℕ) (places : List ℕ) → 0 < item → places_of item (map (λ k. item * k) places) ≡ places
+divided item [] some = refl
+divided item (place ∷ places) some = λ i. mul-div_cancel_left place some i ∷ divided item places some i
+
+-- the contents of an owned array with this block
+pub held-is : (o : Owned) (descr : Descr) (shape bytes : List ℕ) (items : List (List LeafValue)) → o.descr ≡ descr → o.layout.shape ≡ shape → o.block ≡ bytes → items ≡ items_in descr (count shape) bytes → IsInCOrder o → new_contents descr shape items ≡ held o
+held-is o descr shape bytes items typed shaped filled is order = λ i. record {
+  shape = sym shaped i;
+  places = places i;
+  buffer = record { descr = sym typed i; items = (is ∙ λ j. items_in (sym typed j) (count (sym shaped j)) (sym filled j)) i };
+}
+  where
+    places : range_with_len 0 (count shape) ≡ places_of (item_size o.descr) (offsets o.layout)
+    places = ap (λ s. range_with_len 0 (count s)) (sym shaped) ∙ sym (ap (places_of (item_size o.descr)) order ∙ divided (item_size o.descr) (range_with_len 0 (count o.layout.shape)) (omega (arith, o.fills_block.some)))
+
+-- its items lie in C order
+pub in-order : (o : Owned) (descr : Descr) (shape : List ℕ) → o.descr ≡ descr → o.layout.shape ≡ shape → offsets o.layout ≡ offsets_in C (item_size descr) shape → IsInCOrder o
+in-order o descr shape typed shaped laid = laid ∙ λ i. offsets_in C (item_size (sym typed i)) (sym shaped i)
+
+-- ---- casts
+
+pub cast-none : (s : State) (a : Array) (descr : Descr) → can_cast (descr_of s a) descr ≡ false → cast_items s a descr ≡ Err NoSuchCast
+unfolding cast_items
+cast-none s a descr none = rw none refl
+
+pub cast-some : (s : State) (a : Array) (descr : Descr) → can_cast (descr_of s a) descr ≡ true → cast_items s a descr ≡ Ok (map (cast_item (descr_of s a) descr) (read s a))
+unfolding cast_items
+cast-some s a descr can = rw can refl
+
+-- ---- names that are bound
 
 pub creation-refused : (s : State) (name : List ℕ) (contents : Result Contents Refusal) (e : Refusal) → has_room_for s name ≡ true → (e ≡ OutOfMemory) ⊎ (contents ≡ Err e) →
     IsRefused true (λ choice. creation_outcome choice s name contents) e
