@@ -4,7 +4,6 @@ use Rattle.std.proofs.Common.{zero, suc}
 use Rattle.elem_descr.specs.Words.{option_map}
 use Rattle.elem_descr.specs.declared.refusal.Refusal.{Refusal}
 use Rattle.elem_descr.specs.declared.refusal.Refusal.TheVariants.{BadDescriptor, DescriptorLeftOut, TooLarge}
-use Rattle.elem_descr.specs.declared.scalar.Scalar.{Scalar}
 use Rattle.elem_descr.specs.declared.descr.Descr.{Descr}
 use Rattle.elem_descr.specs.declared.descr.Descr.TheVariants.{Scalar as ScalarDescr, Record as RecordDescr}
 use Rattle.elem_descr.specs.declared.format_text.record.Body.{Body}
@@ -16,7 +15,7 @@ use Rattle.elem_descr.specs.Names.{is_legal_name}
 use Rattle.elem_descr.specs.TypeStrings.{is_one_of}
 use Rattle.elem_descr.specs.FormatLetters.{Member, Value, Pad, Opened, is_empty, mark_meant, is_aligning, own_alignment, aligned_to, lettered}
 use Rattle.elem_descr.specs.RecordBuilding.{max_size, max_depth, Partial, empty, checked_name, added, widened, closed_record}
-use Rattle.elem_descr.specs.FormatPieces.{Behind, nothing, between_colons, lone_colon, Piece, letter, opening, brace, stray, pieces}
+use Rattle.elem_descr.specs.FormatPieces.{Behind, nothing, between_colons, lone_colon, Piece, letter, opening, pieces}
 
 -- what a piece means under the current mark: a blank, a mark, a member, or the closing brace of a record
 pub data PieceKind : Type 0 where
