@@ -23,3 +23,7 @@ pub(crate) const FEW_PAIRS: usize = 4;
 
 /// Fewer pairs of bytes than this are not worth a table of reciprocals.
 pub(crate) const MANY_BYTES: usize = 2048;
+
+/// Byte strings of one length, up to this many bytes, are compared by two words without a look at
+/// their trailing NULs.
+pub(crate) const TWO_WORDS: usize = 16;
