@@ -27,7 +27,7 @@ pub use Rattle.elementwise.specs.inside.PairPasses.{AreHeld, Holds, IsNative, co
 pub use Rattle.elementwise.specs.inside.Shrunk.{IsShrunk, stretched_view}
 pub use Rattle.elementwise.specs.inside.Added.{AreAdded}
 pub use Rattle.elementwise.specs.inside.Sides.{AreMadeTo, made_of}
-pub use Rattle.elementwise.specs.inside.Words.{AreInOrder, IsWord}
+pub use Rattle.elementwise.specs.inside.Words.{AreInOrder, CanCut, IsWord}
 pub use Rattle.elementwise.specs.inside.Works.{AreComparable, CanPair, IsWork, gives, left_of, meaning, pair_made, right_of, target, target_of}
 pub use Rattle.std.proofs.Math.Bool.{and-false}
 pub use Rattle.std.proofs.Math.IntN.{*ℤ_comm}
