@@ -42,9 +42,6 @@ abbrev pub is_on_axis : {A : Type 0} → List ℕ → IndexItem A → Bool
 is_on_axis (n ∷ axes) (Integer at) = is_place n at
 is_on_axis _ _ = true
 
-abbrev pub are_on_axes : {A : Type 0} → List ℕ → List (IndexItem A) → Bool
-are_on_axes shape items = list_all (λ p. is_on_axis p.axes p.item) (placed shape items)
-
 -- ---- picks
 
 -- what is picked of an axis: one number (the axis is dropped), or these numbers in this order; or else a new axis of
@@ -96,5 +93,5 @@ unfoldable pub basic : {A : Type 0} → List ℕ → List (IndexItem A) → Resu
 basic shape items = do
   _ ← check (nat_le (axes_taken items) (length shape)) TooManyIndices
   _ ← check (list_all has_step items) ZeroStep
-  _ ← check (are_on_axes shape items) IndexOutOfRange
+  _ ← check (list_all (λ p. is_on_axis p.axes p.item) (placed shape items)) IndexOutOfRange
   picked_view (picks shape items)
