@@ -5,7 +5,7 @@ use Rattle.script_lang.specs.declared.command.Argument.TheVariants as argument
 use Rattle.name_store.specs.declared.bound.Bound.TheVariants as bound
 use Rattle.name_store.specs.declared.target.Source.TheVariants as source
 use Rattle.bench_engine.proofs.Assigns.{all-viewed, lies-viewed, stretched-shape}
-use Rattle.bench_engine.specs.NewArrayLaws.{cast-none, cast-some}
+use Rattle.bench_engine.proofs.Casts.{cast-none, cast-some}
 use Rattle.bench_engine.proofs.Views.{given-view}
 use Rattle.bench_engine.proofs.Answered.{met}
 

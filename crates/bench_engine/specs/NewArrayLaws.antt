@@ -1,8 +1,10 @@
 -- Laws of new arrays: their contents, items that are cast, and names that are bound to them.
-use Rattle.std.specs.Prelude.{◌≡◌, ◌*◌, ◌<◌, ◌⊎◌, ℕ, Bool, IsTrue, List, [], ◌∷◌, Result, Ok, Err, map}
+use Rattle.std.specs.Prelude.{◌≡◌, ◌*◌, ◌<◌, ◌≤◌, ◌⊎◌, ℕ, nat_le, Bool, IsTrue, if◌then◌else◌, List, [], ◌∷◌, map, Result, Ok, Err, IfOk, IfErr}
 use Rattle.std.proofs.Common.{true, false, refl, sym, ap, ◌∙◌, subst, inl, inr, arith}
 use Rattle.std.proofs.Math.Nat.{mul-div_cancel_left}
-use Rattle.bench_engine.specs.Words.{range_with_len, Refusal, OutOfMemory, NoSuchCast, Descr, item_size, items_in, LeafValue, C, count, offsets, Owned, offsets_in, places_of, can_cast, cast_item, State, Array, descr_of, read, has_room_for, bound_to, AnswersBind, Fresh}
+use Rattle.std.proofs.lemmas.Bool.{le-leb}
+use Rattle.std.proofs.lemmas.Simd.{map-map}
+use Rattle.bench_engine.specs.Words.{range_with_len, Refusal, OutOfMemory, NoSuchCast, TooLarge, Gives, check, ◌>>=◌, Descr, item_size, item_from, items_in, LeafValue, C, count, max_bytes, offsets, Owned, offsets_in, places_of, can_cast, cast_item, State, Array, ArrayRef, Shows, descr_of, read, has_room_for, bound_to, AnswersBind, Fresh}
 use Rattle.bench_engine.specs.Contents.{Contents, array_over, new_contents}
 use Rattle.bench_engine.specs.Replies.{bound_text}
 use Rattle.bench_engine.specs.Machine.{Choice, Outcome, accepted_with, bound_new, cast_items, creation_outcome}
@@ -39,13 +41,27 @@ in-order o descr shape typed shaped laid = laid ∙ λ i. offsets_in C (item_siz
 
 -- ---- casts
 
-pub cast-none : (s : State) (a : Array) (descr : Descr) → can_cast (descr_of s a) descr ≡ false → cast_items s a descr ≡ Err NoSuchCast
-unfolding cast_items
-cast-none s a descr none = rw none refl
+refused-cast : {X : Type 0} (can few : Bool) (items : List (List LeafValue)) (make : List (List LeafValue) → X) (e : Refusal) → e ≡ (if can then (if few then OutOfMemory else TooLarge) else NoSuchCast) →
+    (e ≡ OutOfMemory) ⊎ ((check can NoSuchCast >>= (λ _. Ok items)) >>= (λ items. check few TooLarge >>= (λ _. Ok (make items))) ≡ Err e)
+refused-cast true true items make e is = inl is
+refused-cast true false items make e is = inr (ap Err (sym is))
+refused-cast false few items make e is = inr (ap Err (sym is))
 
-pub cast-some : (s : State) (a : Array) (descr : Descr) → can_cast (descr_of s a) descr ≡ true → cast_items s a descr ≡ Ok (map (cast_item (descr_of s a) descr) (read s a))
+-- A call that casts the items of an array returns what is made of them, or the refusal.
+pub cast-answers : {X : Type 0} (view : Owned → X) (make : List (List LeafValue) → X) (s : State) (a : Array) (r : ArrayRef) (descr : Descr) (result : Result Owned Refusal) → Shows s a r →
+    IfOk result (λ o. make (map (λ offset. cast_item r.descr.now descr (item_from r.descr.now r.block.now offset)) (offsets r.layout.now)) ≡ view o) → IfOk result (λ _. can_cast r.descr.now descr ≡ true) → IfOk result (λ _. count r.layout.now.shape * item_size descr ≤ max_bytes) →
+    IfErr result (λ e. e ≡ (if can_cast r.descr.now descr then (if nat_le (count r.layout.now.shape * item_size descr) max_bytes then OutOfMemory else TooLarge) else NoSuchCast)) →
+    Gives view result (cast_items s a descr >>= (λ items. check (nat_le (count a.shape * item_size descr) max_bytes) TooLarge >>= (λ _. Ok (make items))))
 unfolding cast_items
-cast-some s a descr can = rw can refl
+cast-answers view make s a r descr (Ok o) shows made can few refused =
+    rw (ap (λ (d : Descr). can_cast d descr) shows.descr ∙ can, le-leb (count a.shape * item_size descr) max_bytes fits)
+    (ap Ok (ap make ((λ i. map (cast_item (shows.descr i) descr) (shows.reads i)) ∙ map-map (cast_item r.descr.now descr) (item_from r.descr.now r.block.now) (offsets r.layout.now)) ∙ made))
+  where
+    fits : count a.shape * item_size descr ≤ max_bytes
+    fits = subst (λ (l : List ℕ). count l * item_size descr ≤ max_bytes) shows.view.laid.shape few
+cast-answers view make s a r descr (Err e) shows made can few refused =
+    refused-cast (can_cast (descr_of s a) descr) (nat_le (count a.shape * item_size descr) max_bytes) (map (cast_item (descr_of s a) descr) (read s a)) make e
+    (refused ∙ λ i. if can_cast (sym shows.descr i) descr then (if nat_le (count (shows.view.laid.shape i) * item_size descr) max_bytes then OutOfMemory else TooLarge) else NoSuchCast)
 
 -- ---- names that are bound
 
