@@ -11,7 +11,8 @@
                                  with two meanings
 
 It follows the clauses of `run`, what the definitions that they cite cite in turn, for a type that contracts see as a value (`impl Model`)
-what its view cites, and for any other the types of its fields.
+what its view cites, and for any other the types of its fields. It does not follow the view of a type in SHOWN: there the contracts of
+calls say what a caller sees, and it counts apart what these cite.
 
 It reads the sources by patterns, because the toolchain has no such listing: `rt` tells of a crate whether it is proved, and what its macros
 write; `rt lemma` finds one name. What is read is small: `use` lines, heads of definitions, and words. tools/test_believed.py tries it on a
@@ -27,6 +28,9 @@ from pathlib import Path
 
 TOP = Path(__file__).resolve().parent.parent
 HEADLINE = ("crates/bench_engine/src/runner.rt", "run")
+# A caller sees the state of a bench only through calls, and these show all of it. Their contracts would not hold if the fields
+# represented another state, so that nobody has to believe the view.
+SHOWN = {("name_store", "Bench"): ("crates/name_store/src/bench.rt", ("get", "name_at", "len", "undo"))}
 # A definition: its module, and its name.
 Item = tuple[str, str]
 # A verdict carries its proof, so that its type says all, whatever the test is that finds it.
@@ -116,7 +120,8 @@ class Repository:
             if declared := re.match(r"(\w+)\.specs\.declared\.", module):
                 done.add((module, name))
                 view, source = self.models.get((declared[1], name), ("", None))
-                todo |= source.cites(view) if source else set(self.fields_of(declared[1], name))
+                if (declared[1], name) not in SHOWN:
+                    todo |= source.cites(view) if source else set(self.fields_of(declared[1], name))
             elif module in self.modules and name in self.modules[module].local:
                 done.add((module, name))
                 whole = self.modules[module].local[name]
@@ -235,14 +240,30 @@ def twice() -> Iterator[str]:
             yield f"{name} means {len(meanings)} things: {', '.join(sorted(crates))}"
 
 
-def believed(top: Path = TOP, headline: tuple[str, str] = HEADLINE) -> dict[Path, list[str]]:
-    """By file, the definitions that the contract of a function reaches, in their order."""
-    repository, source = Repository(top), Source(top / headline[0])
-    contract = re.findall(rf"pub fn {headline[1]}\b.*?\n\{{", source.text, re.S)[0]
-    reached = repository.reached(source.cites(contract))
+def contract(source: Source, name: str) -> set[Item]:
+    """What the contract of a function of a file cites."""
+    return source.cites(re.findall(rf"pub fn {name}\b.*?\n *\{{", source.text, re.S)[0])
+
+
+def by_file(repository: Repository, reached: set[Item], top: Path = TOP) -> dict[Path, list[str]]:
+    """Definitions by file, in their order."""
     found = {it.path.relative_to(top / "crates"): [name for name in it.local if (module, name) in reached]
              for module, it in repository.modules.items()}
     return {file: names for file, names in found.items() if names}
+
+
+def believed(top: Path = TOP, headline: tuple[str, str] = HEADLINE) -> dict[Path, list[str]]:
+    """By file, the definitions that the contract of a function reaches, in their order."""
+    repository = Repository(top)
+    return by_file(repository, repository.reached(contract(Source(top / headline[0]), headline[1])), top)
+
+
+def shown() -> dict[Path, list[str]]:
+    """By file, the definitions that only the contracts of the calls in SHOWN reach, and the headline does not."""
+    repository = Repository()
+    calls = [(Source(TOP / file), name) for file, names in SHOWN.values() for name in names]
+    cited = {it for source, name in calls for it in contract(source, name)}
+    return by_file(repository, repository.reached(cited) - repository.reached(contract(Source(TOP / HEADLINE[0]), HEADLINE[1])))
 
 
 def listed(found: dict[Path, list[str]]) -> str:
@@ -265,6 +286,8 @@ def unlisted() -> Iterator[str]:
             yield f"{file}: DEFINITIONS.md does not name it"
     if counted(found) not in page:
         yield f"DEFINITIONS.md should say that the headline reaches {counted(found)}"
+    if counted(shown()) not in page:
+        yield f"DEFINITIONS.md should say that the calls that show a bench reach {counted(shown())} more"
 
 
 def unnamed(page: str) -> Iterator[str]:
@@ -286,9 +309,9 @@ def counted(found: dict[Path, list[str]]) -> str:
 
 
 def whole() -> Iterator[str]:
-    """The list of what is reached, and how much that is."""
+    """The list of what is reached, how much that is, and how much more the calls that show a bench reach."""
     found = believed()
-    yield listed(found) + counted(found)
+    yield f"{listed(found)}{counted(found)}; {counted(shown())} more for what a bench shows"
 
 
 def main(word: str = "") -> int:

@@ -31,23 +31,33 @@ class Counts:
         return f"{self.passed} passed, {self.failed} failed, {sum(self.left_out.values())} skipped"
 
 
-def names_of(suite):
-    """The names of the tests of a suite, and of the modules that cannot be read."""
+def tests_of(suite):
+    """The tests of a suite, and the modules that cannot be read."""
     for test in suite:
-        if isinstance(test, unittest.TestSuite):
-            yield from names_of(test)
-        else:
-            yield test.id().replace("unittest.loader._FailedTest.", "")
+        yield from tests_of(test) if isinstance(test, unittest.TestSuite) else [test]
+
+
+def name_of(test):
+    """The name by which a test is run; of a step of a test, that of the test."""
+    return test.id().split()[0].replace("unittest.loader._FailedTest.", "")
+
+
+def batches(tests):
+    """The names of tests that run one after another: each test alone, but those of a class that opens a browser together."""
+    found = {}
+    for test in tests:
+        found.setdefault(type(test) if hasattr(test, "OPENS") else name_of(test), []).append(name_of(test))
+    return list(found.values())
 
 
 # The tests that take longest begin first, so that none of them is left alone at the end.
-LONG = ("InChromium.test_drawn", "InFirefox.test_drawn", "widths_and_colours", "test_wheel", "test_machines", "test_time", "test_page", "test_library", "test_draw",
-        "test_what_the_cases_say", "test_every_fault_is_found")
+LONG = ("InFirefox", "test_page.InChromium", "test_wheel", "test_types", "test_random_scripts", "test_what_the_cases_say", "test_machines", "test_judge", "test_notebook",
+        "test_draw", "test_memory", "test_run", "test_library", "test_page")
 
 
-def by_length(name):
-    """The place of a test in the order in which they begin."""
-    return next((k for k, word in enumerate(LONG) if word in name), len(LONG))
+def by_length(names):
+    """The place of a batch in the order in which they begin."""
+    return min(next((k for k, word in enumerate(LONG) if word in name), len(LONG)) for name in names)
 
 
 def show(text):
@@ -56,30 +66,36 @@ def show(text):
         print(f"\r\033[K{text[:os.get_terminal_size(2).columns - 1]}", end="", file=sys.stderr, flush=True)
 
 
-def results(names):
-    """What `run_test` returns of each, on all cores, as they end."""
+def results(found):
+    """What `run_batch` returns of each test of some batches, on all cores, as they end."""
+    done, count = 0, sum(map(len, found))
     with concurrent.futures.ProcessPoolExecutor() as pool:
-        started = {pool.submit(run_test, name): name for name in sorted(names, key=by_length)}
-        for done, each in enumerate(concurrent.futures.as_completed(started)):
-            show(f"bench: {done} of {len(names)} tests done; {started[each]}")
-            yield each.result()
+        for each in concurrent.futures.as_completed([pool.submit(run_batch, names) for names in sorted(found, key=by_length)]):
+            for result in each.result():
+                done += 1
+                show(f"bench: {done} of {count} tests done; {result[0]}")
+                yield result
     show("")
 
 
-def run_test(name):
-    """Runs a test, with the other Python if it needs NumPy. Returns its name, what it says about failures, and why it was skipped."""
-    found = run_here(name)
-    return run_there(name) if any("NumPy" in why for why in found[2]) and python_with_numpy() else found
+def run_batch(names):
+    """Runs tests, with the other Python those that need NumPy. Of each its name, what it says about failures, and why it was skipped."""
+    return [run_there(found[0]) if any("NumPy" in why for why in found[2]) and python_with_numpy() else found for found in run_here(names)]
 
 
-def run_here(name):
-    said = io.StringIO()
-    result = unittest.TextTestRunner(said, verbosity=0).run(unittest.defaultTestLoader.loadTestsFromName(name))
-    return name, "" if result.wasSuccessful() else said.getvalue(), [why for _, why in result.skipped]
+def run_here(names):
+    """`run_batch` in this Python."""
+    result = unittest.TextTestRunner(io.StringIO(), verbosity=0).run(unittest.TestSuite(map(unittest.defaultTestLoader.loadTestsFromName, names)))
+    return [(name, "\n".join(told(name, result.failures + result.errors)), told(name, result.skipped)) for name in names]
+
+
+def told(name, pairs):
+    """What a result tells of a test, or of what its class sets up."""
+    return [text for test, text in pairs if name_of(test) in (name, "setUpClass", "tearDownClass", "setUpModule")]
 
 
 def run_there(name):
-    """`run_here` in the Python that has NumPy."""
+    """`run_here` of one test in the Python that has NumPy."""
     ran = subprocess.run([python_with_numpy(), __file__, "--one", name], capture_output=True, text=True, errors="replace")
     return json.loads(ran.stdout.splitlines()[-1]) if ran.returncode == 0 else (name, f"{ran.stdout}{ran.stderr}status {ran.returncode}", [])
 
@@ -102,12 +118,12 @@ def tell_numpy():
 
 def run_tests(words, counts, is_gate):
     """Runs the tests on all cores, and reports those that failed and those that were skipped."""
-    found = names_of(unittest.defaultTestLoader.discover(str(TOOLS), "test_*.py"))
-    names = [name for name in found if not words or any(word in name for word in words)]
-    for name, fault, reasons in list(results(names)):
+    found = tests_of(unittest.defaultTestLoader.discover(str(TOOLS), "test_*.py"))
+    chosen = [test for test in found if not words or any(word in name_of(test) for word in words)]
+    for name, fault, reasons in list(results(batches(chosen))):
         if fault:  # On a busy machine a signal or a limit of time may come at the wrong moment.
             print(f"{fault}\n{name} is run once more, alone", flush=True)
-            _, fault, reasons = run_test(name)
+            [(_, fault, reasons)] = run_batch([name])
         if fault or is_gate and any("no program" in why for why in reasons):
             print(f"FAILED: {name}\n{fault or reasons}", flush=True)
             counts.failed += 1
@@ -154,6 +170,6 @@ def main(words):
 
 if __name__ == "__main__":
     if sys.argv[1:2] == ["--one"]:
-        print(json.dumps(run_here(sys.argv[2])))
+        print(json.dumps(run_here([sys.argv[2]])[0]))
         sys.exit(0)
     sys.exit(main(sys.argv[1:]))

@@ -88,7 +88,7 @@ class Runs(InFolder):
                 self.compare(script)
 
     def test_random_scripts(self):
-        for number in range(share(40, 1000)):
+        for number in range(share(25, 1000)):
             with self.subTest(number):
                 self.compare(scripts.random_script(PROGRAM, random.Random(f"run {number}"), number))
 
@@ -208,7 +208,7 @@ class Runs(InFolder):
                 self.assertRegex(done.stderr, f"^{said}$")
 
     def test_ctrl_c_at_once(self):
-        """Ctrl-C while the tool begins ends it with status 130 and no traceback of its own. (One may come of Python itself, before it runs the tool's first line.)"""
+        """Ctrl-C while the tool begins ends it with status 130 and no traceback of its own. (Python itself may write one, before it runs the tool's first line.)"""
         path, rng = self.written("a = arange <i4 0 9 1\nprint a\n" * 50), random.Random(1)
         for _ in range(share(10, 100)):
             for words in (["run", path], ["--help"], ["draw", path], ["show", path]):
@@ -218,7 +218,7 @@ class Runs(InFolder):
                 said = tool.communicate(timeout=PATIENT)[1]
                 own = re.findall(rb'File ".*(?:bench_tool/.*|bench-tool", line \d\d)', said)
                 self.assertEqual(own, [], said)
-                if b"Traceback" not in said and tool.returncode not in (0, -signal.SIGINT):  # it ended before, or before it began
+                if not re.search(rb"Traceback|Fatal Python error", said) and tool.returncode not in (0, -signal.SIGINT):  # it ended before, or before it began
                     self.assertEqual(tool.returncode, 1 if b"E28" in said else 130, said)
 
     def test_place_where_a_line_stops(self):

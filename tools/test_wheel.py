@@ -116,8 +116,9 @@ class Installed(unittest.TestCase):
         self.folder = pathlib.Path(folder.name)
 
     def installed(self, venv, *what, python=sys.executable):
-        """The folder of the commands of a new virtual environment in which something is installed, without network."""
-        subprocess.run([python, "-m", "venv", venv], check=True, env=ENVIRONMENT)
+        """The folder of the commands of a virtual environment in which something is installed, without network."""
+        if not venv.exists():
+            subprocess.run([python, "-m", "venv", venv], check=True, env=ENVIRONMENT)
         subprocess.run([venv / "bin/python", *INSTALL, *what], check=True, env={**ENVIRONMENT, "HTTPS_PROXY": "http://127.0.0.1:9"})
         return venv / "bin"
 
@@ -214,9 +215,9 @@ class Installed(unittest.TestCase):
             shutil.copytree(TOP / path, tree / path, ignore=shutil.ignore_patterns("__pycache__", "pictures"))
         for path in ("bench", "LICENSE-MIT", "LICENSE-APACHE"):
             shutil.copy(TOP / path, tree / path)
-        self.assertTrue(self.answers(self.installed(self.folder / "built", tree / "companion")).startswith(str(self.folder / "built")))
+        self.assertTrue(self.answers(self.installed(self.folder / "venv", tree / "companion")).startswith(str(self.folder / "venv")))
         if works(sys.executable, "-c", "import pip; assert int(pip.__version__.split('.')[0]) >= 22"):
-            self.assertEqual(self.answers(self.installed(self.folder / "edited", "-e", tree / "companion")), str(tree / "bench"))
+            self.assertEqual(self.answers(self.installed(self.folder / "venv", "-e", tree / "companion")), str(tree / "bench"))
 
     def test_each_python(self):
         for python in PYTHONS[1:]:

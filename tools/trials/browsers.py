@@ -166,12 +166,13 @@ class Page:
         raise NotImplementedError
 
     def wait(self, text: str) -> Any:
-        """Waits until an expression is true."""
-        end = time.monotonic() + PATIENT
+        """Waits until an expression is true, and asks ever less often."""
+        end, pause = time.monotonic() + PATIENT, 0.01
         while not (found := self.ask(text)):
             if time.monotonic() > end:
                 raise TimeoutError(text)
-            time.sleep(0.02)
+            time.sleep(pause)
+            pause = min(1.3 * pause, 0.2)
         return found
 
 

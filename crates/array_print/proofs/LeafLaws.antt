@@ -1,6 +1,6 @@
 -- Laws of the texts of an item's values, and of their widths.
 use Rattle.std.proofs.Common.{◌≡◌, ℕ, zero, suc, ◌+◌, ◌<◌, ◌≤◌, List, [], ◌∷◌, ◌++◌, length, map, take, drop, replicate, get_or, refl, sym, ap, subst, ◌∙◌, ◌-◌, arith, append_assoc, IfSome, slice_get}
-use Rattle.array_print.proofs.Words.{take-take, drop-take, drop-drop, take_more, length-take, AllZip-long, Scalar, Byte, Int, Bytes, Leaf, Descr, Field, Fields, before, listed, length-leaves_from, leaf_value, LeafValue, size, decode, leaves_of, BoolScalar, ScalarDescr, RecordDescr, leaf_text, leaf_texts, first_text, later_texts, leaf_width, leaf_widths, widths, right_justified, all_justified, join_texts, in_parentheses, field_texts, structure_text, IsWidth, AreWidths, lead}
+use Rattle.array_print.proofs.Words.{take-take, drop-take, drop-drop, take_more, length-take, AllZip-long, Scalar, Byte, Int, Bytes, Leaf, Descr, Field, Fields, before, listed, length-leaves_from, leaf_value, LeafValue, size, decode, leaves_of, BoolScalar, ScalarDescr, RecordDescr, leaf_text, leaf_texts, first_text, leaf_width, leaf_widths, widths, right_justified, all_justified, join_texts, in_parentheses, field_texts, structure_text, IsWidth, AreWidths, lead}
 
 -- ---- values in a block
 
@@ -39,7 +39,7 @@ no-width (Bytes n) = refl
 
 pub are-leaf-widths : (leaves : List Leaf) (items : List (List (List ℕ))) → AreWidths leaves (leaf_widths leaves items)
 are-leaf-widths [] items = tt
-are-leaf-widths (leaf ∷ leaves) items = (is-width leaf.scalar (map first_text items), are-leaf-widths leaves (map later_texts items))
+are-leaf-widths (leaf ∷ leaves) items = (is-width leaf.scalar (map first_text items), are-leaf-widths leaves (map (drop 1) items))
 
 are-no-widths : (leaves : List Leaf) → AreWidths leaves (replicate (length leaves) 0)
 are-no-widths [] = tt
@@ -84,7 +84,7 @@ first-texts leaf leaves bytes [] = refl
 first-texts leaf leaves bytes (offset ∷ offsets) = ap (λ later. leaf_text leaf.scalar (leaf_value (bytes offset) leaf) ∷ later) (first-texts leaf leaves bytes offsets)
 
 rest-texts : (leaf : Leaf) (leaves : List Leaf) (bytes : ℕ → List ℕ) (offsets : List ℕ) →
-    map later_texts (map (leaf_texts (leaf ∷ leaves)) (map (λ offset. map (leaf_value (bytes offset)) (leaf ∷ leaves)) offsets)) ≡ map (leaf_texts leaves) (map (λ offset. map (leaf_value (bytes offset)) leaves) offsets)
+    map (drop 1) (map (leaf_texts (leaf ∷ leaves)) (map (λ offset. map (leaf_value (bytes offset)) (leaf ∷ leaves)) offsets)) ≡ map (leaf_texts leaves) (map (λ offset. map (leaf_value (bytes offset)) leaves) offsets)
 rest-texts leaf leaves bytes [] = refl
 rest-texts leaf leaves bytes (offset ∷ offsets) = ap (λ later. leaf_texts leaves (map (leaf_value (bytes offset)) leaves) ∷ later) (rest-texts leaf leaves bytes offsets)
 

@@ -1,7 +1,7 @@
 -- Repeated items do not change the widths of leaves.
 use Rattle.std.proofs.Common.{◌≡◌, ℕ, zero, suc, ◌+◌, ◌*◌, ◌<◌, List, [], ◌∷◌, ◌++◌, length, map, take, drop, get_or, pos, max, refl, sym, ap, ap₂, ◌∙◌, ◌-◌, arith, take-add, take_all, fold}
 use Rattle.std.proofs.lemmas.Simd.{map-map}
-use Rattle.array_print.proofs.Words.{map-append, drop_more, BoolScalar, Scalar, Byte, Int, Bytes, Leaf, Descr, Layout, count, item_from, leaves_of, items_from, widest, leaf_texts, first_text, later_texts, leaf_width, leaf_widths, widths_at, IsPart, part_offsets}
+use Rattle.array_print.proofs.Words.{map-append, drop_more, BoolScalar, Scalar, Byte, Int, Bytes, Leaf, Descr, Layout, count, item_from, leaves_of, items_from, widest, leaf_texts, first_text, leaf_width, leaf_widths, widths_at, IsPart, part_offsets}
 use Rattle.array_print.proofs.PartLaws.{stays, part-some, part-block, length-part}
 
 -- ---- the longest text of a list
@@ -42,7 +42,7 @@ same-widths : (leaves : List Leaf) (items more : List (List (List ℕ))) → Agr
 same-widths [] items more same = refl
 same-widths (leaf ∷ leaves) items more same =
     ap₂ (λ w ws. w ∷ ws) (same-width leaf.scalar (map first_text items) (map first_text more) (same first_text))
-    (same-widths leaves (map later_texts items) (map later_texts more) (agree-map later_texts items more same))
+    (same-widths leaves (map (drop 1) items) (map (drop 1) more) (agree-map (drop 1) items more same))
 
 -- ---- an axis whose blocks are all the same
 

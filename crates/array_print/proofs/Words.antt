@@ -1,5 +1,5 @@
 -- Names from std, from the crates below and from `specs/`, which the proofs use.
-pub use Rattle.array_print.specs.Printed.{all_justified, array_text, block_text, escaped, field_texts, first_text, in_parentheses, item_text, items_from, join_texts, later_texts, leaf_text, leaf_texts, leaf_width, leaf_widths, record_end, right_justified, separator, structure_text, widest, widths}
+pub use Rattle.array_print.specs.Printed.{all_justified, array_text, block_text, escaped, field_texts, first_text, in_parentheses, item_text, items_from, join_texts, leaf_text, leaf_texts, leaf_width, leaf_widths, record_end, right_justified, separator, structure_text, widest, widths}
 pub use Rattle.array_print.specs.Sending.{Sends, SendsPart}
 pub use Rattle.array_print.specs.SendingLaws.{appends_nothing, appends_then, part-longer, part-then, sends-more, sends-none, sends-then, split_later}
 pub use Rattle.array_print.specs.StartLaws.{StartsWith-trans}

@@ -1,6 +1,6 @@
 -- The printed text of an array.
 use Rattle.std.specs.Prelude.{ℕ, zero, suc, ◌+◌, ◌-◌, ◌/◌, ◌%◌, ℤ, pos, Bool, ◌&&◌, not, List, [], ◌∷◌, ◌++◌, length, map, replicate, drop, codes, fold, max, flat_map, slice_index, nat_eq, nat_le, if◌then◌else◌}
-use Rattle.array_print.specs.Words.{signed_decimal, Scalar, Byte, Int, Bytes, Leaf, Descr, LeafValue, number_of, text_of, is_one_of, leaves_of, Fields, no_more, scalar_field, record_field, leaf_count, blocks, item_from, count, BoolScalar, ScalarDescr, RecordDescr}
+use Rattle.array_print.specs.Words.{signed_decimal, Scalar, Bytes, Leaf, Descr, LeafValue, number_of, text_of, is_one_of, leaves_of, Fields, no_more, scalar_field, record_field, leaf_count, blocks, item_from, count, BoolScalar, ScalarDescr, RecordDescr}
 
 -- a hexadecimal digit, in lower case
 abbrev pub hex_digit : ℕ → ℕ
@@ -26,9 +26,8 @@ byte_string_text bytes = codes "b'" ++ flat_map escaped bytes ++ codes "'"
 -- the text of a value
 abbrev pub leaf_text : Scalar → LeafValue → List ℕ
 leaf_text BoolScalar value = bool_text (number_of value)
-leaf_text (Byte signed) value = signed_decimal (number_of value)
-leaf_text (Int signed width order) value = signed_decimal (number_of value)
 leaf_text (Bytes n) value = byte_string_text (text_of value)
+leaf_text integer value = signed_decimal (number_of value)
 
 -- the texts of an item's values
 abbrev pub leaf_texts : List Leaf → List LeafValue → List (List ℕ)
@@ -43,23 +42,18 @@ widest texts = fold (λ width text. max width (length text)) 0 texts
 -- integers
 abbrev pub leaf_width : Scalar → List (List ℕ) → ℕ
 leaf_width BoolScalar texts = 5
-leaf_width (Byte signed) texts = widest texts
-leaf_width (Int signed width order) texts = widest texts
 leaf_width (Bytes n) texts = 0
+leaf_width integer texts = widest texts
 
--- the first text of an item, and those after it
+-- the first text of an item
 abbrev pub first_text : List (List ℕ) → List ℕ
 first_text [] = []
 first_text (text ∷ texts) = text
 
-abbrev pub later_texts : List (List ℕ) → List (List ℕ)
-later_texts [] = []
-later_texts (text ∷ texts) = texts
-
 -- the width of each leaf, from its texts in all items
 abbrev pub leaf_widths : List Leaf → List (List (List ℕ)) → List ℕ
 leaf_widths [] items = []
-leaf_widths (leaf ∷ leaves) items = leaf_width leaf.scalar (map first_text items) ∷ leaf_widths leaves (map later_texts items)
+leaf_widths (leaf ∷ leaves) items = leaf_width leaf.scalar (map first_text items) ∷ leaf_widths leaves (map (drop 1) items)
 
 -- the width of each leaf of an array: 0 if the array has no axes
 abbrev pub widths : Descr → List ℕ → List (List LeafValue) → List ℕ

@@ -1,15 +1,14 @@
 -- Arrays that are given, and names that are bound to them.
-use Rattle.std.proofs.Common.{◌≡◌, ◌≢◌, ◌⊎◌, ◌≤◌, ◌*◌, ◌<◌, ◌++◌, ℕ, List, [], ◌∷◌, length, map, codes, true, false, Bool, Option, Some, None, Result, Ok, Err, refl, sym, ap, ◌∙◌, subst, inl, inr, arith}
+use Rattle.std.proofs.Common.{◌≡◌, ◌≢◌, ◌⊎◌, ◌≤◌, ◌*◌, ◌<◌, ◌++◌, ℕ, List, [], length, codes, true, false, Result, Ok, Err, refl, sym, ap, ◌∙◌, inl, inr}
 use Rattle.bench_c.proofs.Facts.{eq-eqb, le-leb, lt-leb, ne_eqb}
-use Rattle.bench_c.specs.Words.{accepted_with, array_over, array_type, bound_new, bound_text, bound_to, creation_outcome, new_contents, Contents, Choice, Gives, Answers, Refusal, OutOfMemory, ByteNotAllowed, Syntax, NumberOfValues, TooManyNames, Descr, item_size, items_in, Owned, offsets, offsets_in, places_of, C, State, has_room_for, AnswersBind, Fresh, count, range_with_len, Line, line_of, asks, bad_byte, misspelt, silent, Command, Ask, Bind, Delete, Save, Set, Undo, Update}
+use Rattle.bench_c.specs.Words.{array_type, bound_new, creation_outcome, Contents, Choice, Gives, Answers, Refusal, OutOfMemory, Syntax, NumberOfValues, TooManyNames, Descr, item_size, items_in, Owned, offsets, offsets_in, C, State, has_room_for, count, Line, line_of, asks, Command, Ask, Bind, Delete, Save, Set, Undo, Update}
 use Rattle.bench_engine.specs.declared.replies.Origin.TheVariants as origin
 use Rattle.script_lang.specs.Reading.{Says}
 use Rattle.bench_c.specs.Arrays.{deleted, given_contents, named}
 use Rattle.bench_c.specs.ArrayCalls.{put_outcome}
 use Rattle.bench_engine.specs.inside.Contract.{CarriesOut}
 use Rattle.bench_engine.specs.inside.OwnContents.{held}
-use Rattle.bench_engine.proofs.Creates.{creation-refused, made-answers, new-answers, same-answers}
-use Rattle.bench_engine.proofs.Makes.{held-is, in-order}
+use Rattle.bench_engine.specs.NewArrayLaws.{creation-refused, held-is, in-order, made-answers, same-answers}
 
 -- ---- names
 
@@ -72,9 +71,9 @@ pub binds-bad : (s : State) (name name' : List ℕ) (contents : Result Contents 
 binds-bad s name name' contents e text is room why = on-name s s name name' contents text (Err e) is (refl, creation-refused s name' contents e room why)
 
 pub binds-made : (s new : State) (name name' : List ℕ) (contents : Result Contents Refusal) (o : Owned) (result : Result (Unit {0}) Refusal) (text : List ℕ) → named name ≡ Ok name' → has_room_for s name' ≡ true → contents ≡ Ok (held o) →
-    text ≡ bound_text name' o.descr o.layout.shape origin.New → AnswersBind s name' (Fresh o) result new → CarriesOut true (λ choice. put_outcome choice s name contents) s new text result
-binds-made s new name name' contents o result text is room good same binds =
-    on-name s new name name' contents text result is (made-answers s new name' contents o result text room good (new-answers s new name' origin.New o result text room same binds))
+    CarriesOut true (λ choice. bound_new choice s name' origin.New (held o)) s new text result → CarriesOut true (λ choice. put_outcome choice s name contents) s new text result
+binds-made s new name name' contents o result text is room good binds =
+    on-name s new name name' contents text result is (made-answers s new name' contents o result text room good binds)
 
 pub given-name : (x there : Result (List ℕ) Refusal) → Answers (λ (n : List ℕ). n) x there → Gives (λ (n : List ℕ). n) x there
 given-name (Ok name) there is = is

@@ -39,7 +39,7 @@ pub record AnswersAsMachine (old : OpenBench) (line : List ℕ) (new : OpenBench
 
 -- If the bytes fit, they are copied to the front of the caller's bytes, and otherwise nothing is copied. `len` is set
 -- to their number in both cases.
-pub record CopiesOut (bytes old new : List ℕ) (len : ℕ) (status : Status) : Type 0 where
+pub record CopiesOut {A : Type 0} (bytes old new : List A) (len : ℕ) (status : Status) : Type 0 where
   pub number : len ≡ length bytes
   pub whole : length bytes ≤ length old → (status ≡ Done) × (new ≡ bytes ++ drop (length bytes) old)
   pub short : length old < length bytes → (status ≡ NoRoom) × (new ≡ old)

@@ -1,10 +1,10 @@
 //! The calls for arrays: what is known about one, its items, and a new one.
 ghost use Rattle.std.specs.Prelude.{◌≡◌, IsSome};
-ghost use Rattle.bench_c.specs.Clauses.{StaysOpen, GivesAsked, GivesInfo, PutsArray, given_contents, info_called, items_called, numbers_called, refusal_text, shape_called, type_called};
+ghost use Rattle.bench_c.specs.Clauses.{StaysOpen, GivesAsked, GivesInfo, PutsArray, given_contents, in_form, info_called, items_called, numbers_called, refusal_text, shape_called, type_called};
 ghost use Rattle.bench_c.specs.declared.status.Status.TheVariants.{Refused};
 
-use crate::asked::{array_called, items_called, numbers_called, type_called};
-use crate::copying::{copy_lengths, copy_out};
+use crate::asked::{Form, array_called, items_called, type_called};
+use crate::copying::copy_out;
 use crate::given::{GivenArray, bind_given};
 use crate::handle::Handle;
 use crate::open_bench::OpenBench;
@@ -35,38 +35,32 @@ fn refuse(reply: &mut ReplyText, refusal: Refusal) -> Status
 }
 
 impl OpenBench {
-    fn give_shape(
-        &mut self,
-        alloc: Global,
-        name: &[u8],
-        out: &mut [usize],
-        len: &mut usize,
-    ) -> Status
+    fn give_shape(&mut self, name: &[u8], out: &mut [usize], len: &mut usize) -> Status
         ensures { GivesAsked (shape_called name.now) out.old out.new len.new
             self.old self.new result }
     {
         *len = 0;
-        match array_called(alloc, &self.bench, name) {
-            Ok(array) => copy_lengths(array.layout.shape.as_slice(), out, len),
+        match array_called(self.reply.allocator(), &self.bench, name) {
+            Ok(array) => copy_out(array.layout.shape.as_slice(), out, len),
             Err(refusal) => refuse(&mut self.reply, refusal),
         }
     }
 
-    fn give_type(&mut self, alloc: Global, name: &[u8], out: &mut [u8], len: &mut usize) -> Status
+    fn give_type(&mut self, name: &[u8], out: &mut [u8], len: &mut usize) -> Status
         ensures { GivesAsked (type_called name.now) out.old out.new len.new
             self.old self.new result }
     {
         *len = 0;
-        match type_called(alloc, &self.bench, name) {
+        match type_called(self.reply.allocator(), &self.bench, name) {
             Ok(text) => copy_out(text.as_slice(), out, len),
             Err(refusal) => refuse(&mut self.reply, refusal),
         }
     }
 
-    fn give_info(&mut self, alloc: Global, name: &[u8], info: &mut Info) -> Status
+    fn give_info(&mut self, name: &[u8], info: &mut Info) -> Status
         ensures { GivesInfo (info_called name.now) info.old info.new self.old self.new result }
     {
-        match array_called(alloc, &self.bench, name) {
+        match array_called(self.reply.allocator(), &self.bench, name) {
             Ok(array) => {
                 *info = Info {
                     items: array.layout.shape.items(),
@@ -79,29 +73,12 @@ impl OpenBench {
         }
     }
 
-    fn give_numbers(
-        &mut self,
-        alloc: Global,
-        name: &[u8],
-        out: &mut [u8],
-        len: &mut usize,
-    ) -> Status
-        ensures { GivesAsked (numbers_called name.now) out.old out.new len.new
+    fn give_items(&mut self, name: &[u8], form: Form, out: &mut [u8], len: &mut usize) -> Status
+        ensures { GivesAsked (in_form form name.now) out.old out.new len.new
             self.old self.new result }
     {
         *len = 0;
-        match numbers_called(alloc, &self.bench, name) {
-            Ok(owned) => copy_out(owned.block.bytes(), out, len),
-            Err(refusal) => refuse(&mut self.reply, refusal),
-        }
-    }
-
-    fn give_items(&mut self, alloc: Global, name: &[u8], out: &mut [u8], len: &mut usize) -> Status
-        ensures { GivesAsked (items_called name.now) out.old out.new len.new
-            self.old self.new result }
-    {
-        *len = 0;
-        match items_called(alloc, &self.bench, name) {
+        match items_called(self.reply.allocator(), &self.bench, name, form) {
             Ok(owned) => copy_out(owned.block.bytes(), out, len),
             Err(refusal) => refuse(&mut self.reply, refusal),
         }
@@ -134,7 +111,7 @@ pub extern "C" fn bench_c_shape(
         handle.old.value handle.new.value result }
 {
     let mut bench = mem::replace(handle, Handle::closed(alloc)).into_box();
-    let status = bench.give_shape(alloc, name, out, len);
+    let status = bench.give_shape(name, out, len);
     *handle = Handle::of(bench);
     status.code()
 }
@@ -153,7 +130,7 @@ pub extern "C" fn bench_c_type(
         handle.old.value handle.new.value result }
 {
     let mut bench = mem::replace(handle, Handle::closed(alloc)).into_box();
-    let status = bench.give_type(alloc, name, out, len);
+    let status = bench.give_type(name, out, len);
     *handle = Handle::of(bench);
     status.code()
 }
@@ -171,7 +148,7 @@ pub extern "C" fn bench_c_info(
         handle.old.value handle.new.value result }
 {
     let mut bench = mem::replace(handle, Handle::closed(alloc)).into_box();
-    let status = bench.give_info(alloc, name, info);
+    let status = bench.give_info(name, info);
     *handle = Handle::of(bench);
     status.code()
 }
@@ -191,7 +168,7 @@ pub extern "C" fn bench_c_items(
         handle.old.value handle.new.value result }
 {
     let mut bench = mem::replace(handle, Handle::closed(alloc)).into_box();
-    let status = bench.give_numbers(alloc, name, out, len);
+    let status = bench.give_items(name, Form::Number, out, len);
     *handle = Handle::of(bench);
     status.code()
 }
@@ -211,7 +188,7 @@ pub extern "C" fn bench_c_get_array(
         handle.old.value handle.new.value result }
 {
     let mut bench = mem::replace(handle, Handle::closed(alloc)).into_box();
-    let status = bench.give_items(alloc, name, out, len);
+    let status = bench.give_items(name, Form::Own, out, len);
     *handle = Handle::of(bench);
     status.code()
 }

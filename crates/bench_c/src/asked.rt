@@ -1,6 +1,6 @@
 //! Questions about the array of a name: what the calls copy out.
 ghost use Rattle.std.specs.Prelude.{◌≡◌, ◌+◌, ◌≤◌, length, All, IfOk};
-ghost use Rattle.bench_c.specs.Clauses.{Array, Gives, Looks, Shows, State, array_called, bytes_as, descr_text, int64, item_size, items_called, numbers_called, offsets, type_called};
+ghost use Rattle.bench_c.specs.Clauses.{Array, Gives, Looks, Shows, State, array_called, bytes_as, descr_text, in_form, item_size, offsets, type_called};
 
 use arrays::{Items, Owned};
 use elem_descr::{
@@ -61,9 +61,18 @@ fn cast_to(alloc: Global, array: &ArrayRef<'_>, descr: &Descr) -> Result<Owned, 
     cast(alloc, items, descr)
 }
 
-/// The items of a name's array in C order, each as an integer of eight bytes.
-pub fn numbers_called(alloc: Global, bench: &Bench, name: &[u8]) -> Result<Owned, Refusal>
-    ensures { Gives (λ owned. owned.block) result (numbers_called name.now bench.now.state) }
+/// In which bytes items are copied out.
+#[derive(Clone, Copy)]
+pub enum Form {
+    /// Those of their own type.
+    Own,
+    /// Those of an integer of eight bytes, the lowest first.
+    Number,
+}
+
+/// The items of a name's array in C order.
+pub fn items_called(alloc: Global, bench: &Bench, name: &[u8], form: Form) -> Result<Owned, Refusal>
+    ensures { Gives (λ owned. owned.block) result (in_form form name.now bench.now.state) }
 {
     let array = array_called(alloc, bench, name)?;
     let int64 = Descr::Scalar(Scalar::Int {
@@ -71,13 +80,8 @@ pub fn numbers_called(alloc: Global, bench: &Bench, name: &[u8]) -> Result<Owned
         width: Width::Eight,
         order: Order::Little,
     });
-    cast_to(alloc, &array, &int64)
-}
-
-/// The items of a name's array in C order.
-pub fn items_called(alloc: Global, bench: &Bench, name: &[u8]) -> Result<Owned, Refusal>
-    ensures { Gives (λ owned. owned.block) result (items_called name.now bench.now.state) }
-{
-    let array = array_called(alloc, bench, name)?;
-    cast_to(alloc, &array, array.descr)
+    match form {
+        Form::Own => cast_to(alloc, &array, array.descr),
+        Form::Number => cast_to(alloc, &array, &int64),
+    }
 }

@@ -5,29 +5,16 @@ ghost use Rattle.bench_c.specs.Benches.{CopiesOut, CopiesOutIfAny};
 
 use crate::status::Status;
 
-/// Copies bytes to `out` if they fit, and sets `len` to their number in any case.
-pub fn copy_out(bytes: &[u8], out: &mut [u8], len: &mut usize) -> Status
-    ensures { CopiesOut bytes.now out.old out.new len.new result }
+/// Copies bytes or numbers to `out` if they fit, and sets `len` to how many they are in any case.
+pub fn copy_out<T: Copy>(given: &[T], out: &mut [T], len: &mut usize) -> Status
+    ensures { CopiesOut given.now out.old out.new len.new result }
 {
-    *len = bytes.len();
-    if bytes.len() > out.len() {
+    *len = given.len();
+    if given.len() > out.len() {
         return Status::NoRoom;
     }
-    let (front, _) = out.split_at_mut(bytes.len());
-    front.copy_from_slice(bytes);
-    Status::Done
-}
-
-/// The same for lengths in place of bytes.
-pub fn copy_lengths(lengths: &[usize], out: &mut [usize], len: &mut usize) -> Status
-    ensures { CopiesOut lengths.now out.old out.new len.new result }
-{
-    *len = lengths.len();
-    if lengths.len() > out.len() {
-        return Status::NoRoom;
-    }
-    let (front, _) = out.split_at_mut(lengths.len());
-    front.copy_from_slice(lengths);
+    let (front, _) = out.split_at_mut(given.len());
+    front.copy_from_slice(given);
     Status::Done
 }
 

@@ -1,17 +1,15 @@
 //! Arrays that are given by their type, their shape and the bytes of their items.
-ghost use Rattle.std.specs.Prelude.{◌≡◌, ◌++◌, ◌*◌, ◌≤◌, true, codes, IfOk, OnOk};
-ghost use Rattle.bench_c.specs.Clauses.{Answers, CarriesOut, Gives, array_type, asks, bound_text, count, deleted, given_contents, held, item_size, max_bytes, named, put_outcome};
-ghost use Rattle.bench_engine.specs.declared.replies.Origin.TheVariants as origin;
+ghost use Rattle.std.specs.Prelude.{true};
+ghost use Rattle.bench_c.specs.Clauses.{Answers, CarriesOut, Gives, asks, deleted, given_contents, held, named, put_outcome};
 
-use crate::asked::descr_text;
 use arrays::Owned;
-use bench_engine::ReplyText;
-use elem_descr::{Descr, LONGEST_NAME, MemoryOrder, Name, Refusal, descr_read};
-use name_store::{Bench, Bound};
+use bench_engine::{Origin, ReplyText, array_type, bind_new};
+use elem_descr::{LONGEST_NAME, MemoryOrder, Name, Refusal};
+use name_store::Bench;
 use raw_block::RawBlock;
 use script_lang::{Command, parse};
-use shape_strides::{MAX_BYTES, Shape};
-use std::alloc::{AllocError, Global};
+use shape_strides::Shape;
+use std::alloc::Global;
 
 /// An array as C gives it: its type as a script writes it, the lengths of its axes, and the bytes
 /// of its items in C order.
@@ -48,46 +46,18 @@ fn named(alloc: Global, name: &[u8]) -> Result<Name, Refusal>
     }
 }
 
-/// The element type and the shape of a new array.
-fn array_type(alloc: Global, descr: &[u8], lengths: &[usize]) -> Result<(Descr, Shape), Refusal>
-    ensures value { Gives (λ t. (t.0, t.1)) result (array_type descr.now lengths.now) }
-    ensures bytes { IfOk result (λ t. count t.1 * item_size t.0 ≤ max_bytes) }
-{
-    let descr = descr_read(alloc, descr)?;
-    let shape = Shape::try_new(alloc, lengths)?;
-    if shape.items() * descr.size() > MAX_BYTES {
-        return Err(Refusal::TooLarge);
-    }
-    Ok((descr, shape))
-}
-
 /// The array that is given.
 fn owned_of(alloc: Global, array: &GivenArray<'_>) -> Result<Owned, Refusal>
     ensures { Gives held result
         (given_contents array.now.descr.now array.now.shape.now array.now.items.now) }
 {
-    let (descr, shape) = array_type(alloc, array.descr, array.shape)?;
+    let shape = Shape::try_new(alloc, array.shape);
+    let (descr, shape) = array_type(alloc, array.descr, shape)?;
     if array.items.len() != shape.items() * descr.size() {
         return Err(Refusal::NumberOfValues);
     }
     let block = RawBlock::try_copied(alloc, array.items)?;
     Ok(Owned::over(alloc, descr, &shape, MemoryOrder::C, block)?)
-}
-
-/// Makes `ok X DESCR SHAPE new` the reply.
-fn set_bound_text(out: &mut ReplyText, name: &Name, owned: &Owned) -> Result<(), AllocError>
-    ensures { OnOk result (out.new
-        ≡ bound_text name.now owned.now.descr owned.now.layout.shape origin.New) }
-{
-    let alloc = out.allocator();
-    let descr = descr_text(alloc, &owned.descr)?;
-    let lengths = &owned.layout.shape;
-    let shape = format!(in alloc; " {lengths}")?;
-    out.set(b"ok ", name.as_slice());
-    out.push(b" ")?;
-    out.push(descr.as_slice())?;
-    out.push(shape.as_bytes())?;
-    out.push(b" new")
 }
 
 /// Binds a name to the array that is given, and makes the reply.
@@ -107,6 +77,5 @@ pub fn bind_given(
         return Err(Refusal::TooManyNames);
     }
     let owned = owned_of(alloc, array)?;
-    set_bound_text(out, &name, &owned)?;
-    bench.bind(&name, Bound::Fresh(owned))
+    bind_new(bench, &name, owned, Origin::New, out)
 }

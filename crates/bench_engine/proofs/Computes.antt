@@ -1,53 +1,27 @@
 -- A name that is bound to the result of a computation.
-use Rattle.std.proofs.Common.{◌≡◌, ℕ, true, false, Some, None, List, map, IfOk, Option, Result, Ok, Err, refl, sym, ap, ◌∙◌, ◌⊎◌, inl, inr}
-use Rattle.bench_engine.proofs.Words.{list_all, map-map, Refusal, UnknownName, TooManyNames, OutOfMemory, Descr, Gives, check, ◌>>=◌, item_from, IndexItem, MemoryOrder, C, offsets, unary_result, unary_item, Items, Owned, Operation, UnOp, Operand, Argument, Computation, Duplicate, Cast, Combine, Transform, Reduce, State, find_array, is_bound, has_room_for, descr_of, read, View, Array, Contents, new_contents, taken, bound_in_computation, Choice, Outcome, compute_outcome, bound_new, copy_outcome, cast_outcome, operand_values, viewed, operand_part, argument_values, operation_with, operation_contents, transformed, creation_outcome, computed_outcome, computed_contents, origin_of, StandsFor, GivesGiven, held, IsInCOrder}
+use Rattle.std.proofs.Common.{◌≡◌, ℕ, true, false, Some, None, List, map, IfOk, Result, Ok, Err, refl, sym, ap, ◌∙◌, ◌⊎◌, inl, inr}
+use Rattle.bench_engine.proofs.Words.{list_all, map-map, Refusal, UnknownName, TooManyNames, OutOfMemory, Descr, Gives, item_from, IndexItem, C, offsets, unary_result, unary_item, Items, Owned, Operation, UnOp, Operand, Argument, Computation, State, find_array, is_bound, has_room_for, descr_of, read, View, Array, Contents, new_contents, taken, bound_in_computation, Choice, compute_outcome, bound_new, operand_values, viewed, operand_part, argument_values, operation_with, operation_contents, transformed, computed_contents, origin_of, StandsFor, GivesGiven, held, IsInCOrder}
 use Rattle.bench_engine.proofs.Copies.{made-held}
 
 -- ---- the command
 
--- a computation is carried out if its names are bound and there is room for the new name
-unfoldable computing : Choice → State → List ℕ → Computation → Outcome
-computing choice s name c = do
-  _ ← check (list_all (is_bound s) (bound_in_computation c)) UnknownName
-  _ ← check (has_room_for s name) TooManyNames
-  new ← computed_contents s c
-  bound_new choice s name (origin_of c) new
-
-copied-so : (choice : Choice) (s : State) (name source : List ℕ) (order : MemoryOrder) (found : Option Array) → find_array s.names source ≡ found → copy_outcome choice s name source order ≡ computing choice s name (Duplicate source order)
-unfolding copy_outcome computing
-copied-so choice s name source order None is = rw is refl
-copied-so choice s name source order (Some a) is = rw is refl
-
-cast-so : (choice : Choice) (s : State) (name source text : List ℕ) (found : Option Array) → find_array s.names source ≡ found → cast_outcome choice s name source text ≡ computing choice s name (Cast source text)
-unfolding cast_outcome computing
-cast-so choice s name source text None is = rw is refl
-cast-so choice s name source text (Some a) is = rw is refl
-
-carried-so : (choice : Choice) (s : State) (name : List ℕ) (c : Computation) → compute_outcome choice s name c ≡ computing choice s name c
-unfolding computed_outcome creation_outcome computing
-carried-so choice s name (Duplicate source order) = copied-so choice s name source order (find_array s.names source) refl
-carried-so choice s name (Cast source text) = cast-so choice s name source text (find_array s.names source) refl
-carried-so choice s name (Combine op left right) = refl
-carried-so choice s name (Transform op operand) = refl
-carried-so choice s name (Reduce reduction source axis keep) = refl
-
 module _ (s : State) (name : List ℕ) (c : Computation) where
   pub compute-unknown : list_all (is_bound s) (bound_in_computation c) ≡ false → (choice : Choice) → compute_outcome choice s name c ≡ Err UnknownName
-  unfolding computing
-  compute-unknown none choice = carried-so choice s name c ∙ rw none refl
+  unfolding compute_outcome
+  compute-unknown none choice = rw none refl
 
   module _ (all : list_all (is_bound s) (bound_in_computation c) ≡ true) where
     pub compute-many : has_room_for s name ≡ false → (choice : Choice) → compute_outcome choice s name c ≡ Err TooManyNames
-    unfolding computing
-    compute-many full choice = carried-so choice s name c ∙ rw (all, full) refl
+    unfolding compute_outcome
+    compute-many full choice = rw (all, full) refl
 
     pub compute-bad : (e : Refusal) → has_room_for s name ≡ true → computed_contents s c ≡ Err e → (choice : Choice) → compute_outcome choice s name c ≡ Err e
-    unfolding computing
-    compute-bad e room bad choice = carried-so choice s name c ∙ rw (all, room, bad) refl
+    unfolding compute_outcome
+    compute-bad e room bad choice = rw (all, room, bad) refl
 
     pub compute-done : (new : Contents) → has_room_for s name ≡ true → computed_contents s c ≡ Ok new → (choice : Choice) → compute_outcome choice s name c ≡ bound_new choice s name (origin_of c) new
-    unfolding computing
-    compute-done new room good choice = carried-so choice s name c ∙ rw (all, room, good) refl
+    unfolding compute_outcome
+    compute-done new room good choice = rw (all, room, good) refl
 
 -- ---- operands
 

@@ -1,7 +1,7 @@
 -- Index lists with names of arrays.
 use Rattle.std.proofs.Common.{◌≡◌, ◌<◌, ◌≤◌, ◌+◌, ◌*◌, ◌&&◌, ℕ, zero, suc, true, false, nat_le, List, [], ◌∷◌, ◌++◌, length, map, take, get_or, slice_index, Some, refl, sym, ap, ◌∙◌, subst, All, Result, Ok, Err, arith}
 use Rattle.bench_engine.proofs.Words.{Contains, list_all, le-leb, lt-leb, and_parts, take_more, length-map, map_push, All-map, Contains-get_or, list_all-append, map-map, Refusal, TooLarge, item_from, item_size, IndexItem, Layout, count, indexes, rank, length-indexes, rank-lt, get_or-indexes, index_at, length-offsets, offsets, max_bytes, view_through, IndexArray, indexed, Planned, IsPlanOf, GivesPlan, index_array_of, index_item_of, index_items, first_number, Items, State, is_bound, buffer_of, descr_of, addresses, read, start_at, Shows, ArrayRef, offsets-at, View, Array, names_in_item, names_in_index, by_items, array_by_items, gathered, viewed}
-use Rattle.bench_engine.proofs.Makes.{passed}
+use Rattle.bench_engine.specs.NewArrayLaws.{passed}
 
 -- ---- names that are bound
 

@@ -1,6 +1,5 @@
 pub mod Words
 pub mod Capped
-pub mod Creates
 pub mod Feeding
 pub mod Answered
 pub mod Assigns

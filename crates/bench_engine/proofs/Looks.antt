@@ -1,6 +1,6 @@
 -- Names that are looked up, and questions about their arrays.
 use Rattle.std.proofs.Common.{◌≡◌, ◌&&◌, ℕ, true, false, List, [], ◌∷◌, Ok, refl, sym, ap, Option, Some, None, Err, is_some}
-use Rattle.bench_engine.proofs.Words.{list_all, UnknownName, Refusal, Ask, Print, offsets, array_text, items_from, State, find_array, is_bound, Shows, ArrayRef, Array, and-true, refusal, world, may_lack_memory, MayAnswer, IsRefused, MayPrint, question_outcome, print_outcome, accepted_with}
+use Rattle.bench_engine.proofs.Words.{list_all, UnknownName, Refusal, Ask, Print, offsets, array_text, items_from, State, find_array, is_bound, Shows, ArrayRef, Array, and-true, refusal, world, may_lack_memory, MayAnswer, IsRefused, MayPrint, question_outcome, accepted_with}
 use Rattle.bench_engine.specs.Words.{Finds}
 use Rattle.script_lang.specs.declared.command.Question.TheVariants as question
 use Rattle.bench_engine.proofs.Steps.{spare, carried}
@@ -21,21 +21,19 @@ pub bound : (s : State) (name : List ℕ) (array : Array) → find_array s.names
 bound s name array is = ap is_some is
 
 -- print
-pub print-unknown : (s : State) (name : List ℕ) → find_array s.names name ≡ None → print_outcome s name ≡ Err UnknownName
-unfolding print_outcome
+pub print-unknown : (s : State) (name : List ℕ) → find_array s.names name ≡ None → question_outcome s (question.Print name) ≡ Err UnknownName
 print-unknown s name none = rw none refl
 
 pub print-found : (s : State) (name : List ℕ) (a : Array) (r : ArrayRef) → find_array s.names name ≡ Some a → Shows s a r →
-    print_outcome s name ≡ accepted_with s (array_text r.descr.now r.layout.now.shape (items_from r.descr.now r.block.now (offsets r.layout.now)))
-unfolding print_outcome
+    question_outcome s (question.Print name) ≡ accepted_with s (array_text r.descr.now r.layout.now.shape (items_from r.descr.now r.block.now (offsets r.layout.now)))
 print-found s name a r is shows = rw is (λ i. accepted_with s (array_text (shows.descr i) (sym shows.view.laid.shape i) (shows.reads i)))
 
 -- the reply to `print`, and its refusal
-pub may-print : (s : State) (name text : List ℕ) → print_outcome s name ≡ accepted_with s text → MayPrint s name (record { text = text; accepted = true })
+pub may-print : (s : State) (name text : List ℕ) → question_outcome s (question.Print name) ≡ accepted_with s text → MayPrint s name (record { text = text; accepted = true })
 may-print s name text is shelf =
     let any = spare s in
     carried s s shelf (may_lack_memory s (Ask (Print name))) (λ choice. question_outcome s (question.Print name)) text (Ok tt) (any.0, any.1, is)
 
-pub may-refuse : (s : State) (name : List ℕ) (r : Refusal) → IsRefused (is_bound s name) (λ choice. print_outcome s name) r → MayPrint s name (refusal r)
+pub may-refuse : (s : State) (name : List ℕ) (r : Refusal) → IsRefused (is_bound s name) (λ choice. question_outcome s (question.Print name)) r → MayPrint s name (refusal r)
 may-refuse s name r is shelf =
     carried s s shelf (may_lack_memory s (Ask (Print name))) (λ choice. question_outcome s (question.Print name)) [] (Err r) (refl, rw and-true is)

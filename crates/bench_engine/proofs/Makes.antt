@@ -1,29 +1,9 @@
 -- The contents of the arrays that commands make, for each way in which a command may end.
 use Rattle.std.proofs.Common.{◌≡◌, ◌≢◌, ◌≤◌, ◌*◌, ℕ, zero, suc, ℤ, List, [], ◌∷◌, length, drop, map, replicate, refl, sym, ap, ◌∙◌, Result, Ok, Err, IfOk, IfErr, nat_le, if◌then◌else◌, ◌⊎◌, inl, inr, arith}
-use Rattle.bench_engine.proofs.Words.{le-leb, ne_eqb, eq-eqb, length-map, Refusal, OutOfMemory, TooLarge, NumberOfValues, Scalar, Descr, Gives, Answers, descriptor, size, item_size, decode_item, blocks, items_in, LeafValue, max_bytes, max_items, C, count, offsets, offsets_in, places_of, shape_of, Literal, Owned, item_value, item_values, range_items, ScalarDescr, range_with_len, new_contents, array_type, zeros_contents, full_contents, array_contents, arange_contents, integer_scalar, range_scalar, held, IsInCOrder}
-use Rattle.bench_engine.proofs.Stored.{divided}
+use Rattle.bench_engine.proofs.Words.{le-leb, ne_eqb, eq-eqb, length-map, Refusal, OutOfMemory, TooLarge, NumberOfValues, Scalar, Descr, Gives, Answers, descriptor, size, item_size, decode_item, blocks, items_in, LeafValue, max_bytes, max_items, C, count, offsets, offsets_in, shape_of, Literal, Owned, item_value, item_values, range_items, ScalarDescr, array_type, zeros_contents, full_contents, array_contents, arange_contents, integer_scalar, range_scalar, held, IsInCOrder}
+use Rattle.bench_engine.specs.NewArrayLaws.{held-is, in-order}
 use Rattle.bench_engine.proofs.StretchLaws.{map-replicate}
 use Rattle.bench_engine.proofs.Zeros.{items_in-zeros}
-
--- a refusal that is passed on
-pub passed : {X Y : Type 0} (x : Result X Refusal) (y : Result Y Refusal) (e : Refusal) → (x ≡ Err e → y ≡ Err e) → (e ≡ OutOfMemory) ⊎ (x ≡ Err e) → (e ≡ OutOfMemory) ⊎ (y ≡ Err e)
-passed x y e on (inl lacks) = inl lacks
-passed x y e on (inr is) = inr (on is)
-
--- the contents of an owned array with this block
-pub held-is : (o : Owned) (descr : Descr) (shape bytes : List ℕ) (items : List (List LeafValue)) → o.descr ≡ descr → o.layout.shape ≡ shape → o.block ≡ bytes → items ≡ items_in descr (count shape) bytes → IsInCOrder o → new_contents descr shape items ≡ held o
-held-is o descr shape bytes items typed shaped filled is order = λ i. record {
-  shape = sym shaped i;
-  places = places i;
-  buffer = record { descr = sym typed i; items = (is ∙ λ j. items_in (sym typed j) (count (sym shaped j)) (sym filled j)) i };
-}
-  where
-    places : range_with_len 0 (count shape) ≡ places_of (item_size o.descr) (offsets o.layout)
-    places = ap (λ s. range_with_len 0 (count s)) (sym shaped) ∙ sym (ap (places_of (item_size o.descr)) order ∙ divided (item_size o.descr) (range_with_len 0 (count o.layout.shape)) (omega (arith, o.fills_block.some)))
-
--- its items lie in C order
-pub in-order : (o : Owned) (descr : Descr) (shape : List ℕ) → o.descr ≡ descr → o.layout.shape ≡ shape → offsets o.layout ≡ offsets_in C (item_size descr) shape → IsInCOrder o
-in-order o descr shape typed shaped laid = laid ∙ λ i. offsets_in C (item_size (sym typed i)) (sym shaped i)
 
 zeros-done : (text lengths : List ℕ) (descr : Descr) (shape : List ℕ) (o : Owned) → array_type text lengths ≡ Ok (descr, shape) → o.descr ≡ descr → o.layout.shape ≡ shape → o.block ≡ replicate (count shape * item_size descr) 0 → offsets o.layout ≡ offsets_in C (item_size descr) shape →
     zeros_contents text lengths ≡ Ok (held o)

@@ -1,12 +1,9 @@
 -- Items that are stored in C order or in Fortran order, and their places.
 use Rattle.std.proofs.Common.{◌≡◌, ◌+◌, ◌*◌, ◌<◌, ℕ, zero, suc, List, [], ◌∷◌, length, map, take, drop, reverse, get_or, refl, sym, ap, ◌∙◌, arith}
 use Rattle.bench_engine.proofs.Words.{range_with_len, mul-div_cancel_left, length-map, get_or-map, same_lists, reverse-reverse, length-map-range_with_len, get_or-map-range_with_len, Descr, item_size, decode_item, blocks, items_in, item_from, LeafValue, MemoryOrder, C, Fortran, count, indexes, rank, IsIndex, length-indexes, get_or-indexes, index_at, rank-lt, count-reverse, IsIndex-from_reverse, multiples, f_multiples, offsets_in, places_of, ordered, places_in}
+use Rattle.bench_engine.specs.NewArrayLaws.{divided}
 
 -- ---- places
-
-pub divided : (item : ℕ) (places : List ℕ) → 0 < item → places_of item (map (λ k. item * k) places) ≡ places
-divided item [] some = refl
-divided item (place ∷ places) some = λ i. mul-div_cancel_left place some i ∷ divided item places some i
 
 divided-each : (item : ℕ) (f : List ℕ → ℕ) (is : List (List ℕ)) → 0 < item → places_of item (map (λ i. item * f i) is) ≡ map f is
 divided-each item f [] some = refl

@@ -5,7 +5,7 @@ use Rattle.name_store.specs.declared.target.Target.TheVariants as target
 use Rattle.bench_engine.proofs.Assigns.{lies-whole, lies-viewed}
 use Rattle.bench_engine.proofs.GivenLaws.{cast-lacks}
 use Rattle.bench_engine.proofs.IndexLaws.{given-plan, plan-counted, plan-inside, plan-addresses, plan-among}
-use Rattle.bench_engine.proofs.Makes.{passed}
+use Rattle.bench_engine.specs.NewArrayLaws.{passed}
 use Rattle.bench_engine.proofs.Sets.{items-at, target-few}
 use Rattle.bench_engine.proofs.Views.{given-view}
 use Rattle.bench_engine.proofs.Answered.{met}

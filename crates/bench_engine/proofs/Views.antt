@@ -3,7 +3,7 @@ use Rattle.std.proofs.Common.{◌≡◌, ◌⊎◌, ℕ, Bool, true, false, List
 use Rattle.bench_engine.proofs.Words.{Refusal, OutOfMemory, ◌>>=◌, Descr, Layout, IsViewOf, GivesView, KeepsNested, State, has_room_for, bound_to, bound_view, addresses, AnswersBind, IsViewIn, MayBind, Shows, Bound, ArrayRef, View, Array, Viewed, IsOf, descr_seen, shape_of_bound, origin_of_bound, IsSeen, array_over, CarriesOut, IsRefused, Meets, bound_text, Choice, Outcome, ViewOrCopy, a_view, a_copy, viewed, bound_seen, accepted_with}
 use Rattle.name_store.specs.declared.bound.Bound.TheVariants as bound
 use Rattle.bench_engine.specs.declared.replies.Origin.TheVariants as origin
-use Rattle.bench_engine.proofs.Creates.{fresh-answers}
+use Rattle.bench_engine.specs.NewArrayLaws.{fresh-answers}
 use Rattle.bench_engine.proofs.Assigns.{lies-whole, lies-viewed}
 use Rattle.bench_engine.proofs.Steps.{spare}
 

@@ -7,9 +7,9 @@ unfoldable pub use Rattle.bench_engine.specs.Headline.{meaning_of}
 pub use Rattle.bench_engine.specs.IndexLists.{array_by_items, by_items, names_in_index, names_in_item, taken}
 unfoldable pub use Rattle.bench_engine.specs.IndexLists.{gathered}
 pub use Rattle.bench_engine.specs.KeptBytes.{KeepsBytes, KeepsItems}
-pub use Rattle.bench_engine.specs.Machine.{Choice, IsAllowed, OperandValues, Outcome, ViewOrCopy, a_copy, a_view, accepted_with, after_outcome, argument_items, argument_values, as_copy, bound_new, bound_seen, changed_with, compute_outcome, literal_scalar, literal_value, literal_values, names_in_argument, names_in_viewing, new_items, one_item, operand_values, operation_item, operation_with, part_seen, question_outcome, seen, under_shape, updated, viewed, write_reply}
-unfoldable pub use Rattle.bench_engine.specs.Machine.{cast_contents, cast_items, cast_outcome, compared_literal, computed_outcome, copied_contents, copy_outcome, creation_outcome, delete_outcome, format_outcome, info_outcome, operand_of_literal, operand_part, operation_contents, operation_on, operation_scalar, print_outcome, reduced_contents, reshaped, shares_outcome, target_part, transformed, undo_outcome, updated_items, view_outcome, write_outcome}
-pub use Rattle.bench_engine.specs.Memory.{MayAnswer, bound_in_computation, may_lack_memory}
+pub use Rattle.bench_engine.specs.Machine.{Choice, IsAllowed, OperandValues, Outcome, ViewOrCopy, a_copy, a_view, accepted_with, after_outcome, argument_items, argument_values, as_copy, bound_in_computation, bound_new, bound_seen, changed_with, computed_contents, literal_scalar, literal_value, literal_values, names_in_argument, names_in_viewing, new_items, one_item, operand_values, operation_item, operation_with, origin_of, part_seen, question_outcome, seen, under_shape, updated, viewed, write_reply}
+unfoldable pub use Rattle.bench_engine.specs.Machine.{cast_contents, cast_items, compared_literal, compute_outcome, copied_contents, creation_outcome, delete_outcome, operand_of_literal, operand_part, operation_contents, operation_on, operation_scalar, reduced_contents, reshaped, target_part, transformed, undo_outcome, updated_items, view_outcome, write_outcome}
+pub use Rattle.bench_engine.specs.Memory.{MayAnswer, may_lack_memory}
 pub use Rattle.bench_engine.specs.Replies.{Reply, Tells, bound_text, format_text, info_text, names_text, refusal, shares_text}
 pub use Rattle.bench_engine.specs.Sessions.{Ends, Fed, FedInPart, Feeds, HasTold, HoldsBytes, HoldsPiece, IsNew}
 pub use Rattle.bench_engine.specs.Steps.{DoesAlone, Found, LoadStep, MayFind, Refuses, SaveStep, Step, Stored, World, bound_loaded, loaded, loaded_contents, save_reply, store_refusal, world}
@@ -26,7 +26,6 @@ pub use Rattle.bench_engine.specs.declared.session.Summary.{Summary}
 pub use Rattle.bench_engine.specs.declared.update.Writing.{Writing}
 pub use Rattle.bench_engine.specs.declared.view.Viewed.{Viewed}
 pub use Rattle.bench_engine.specs.inside.Assigns.{Fitted, Holds, IsAimed, IsTarget, LiesIn, Stretches, cast_from}
-pub use Rattle.bench_engine.specs.inside.Computed.{computed_contents, origin_of}
 pub use Rattle.bench_engine.specs.inside.Contract.{Carried, CarriesOut, IsRefused}
 pub use Rattle.bench_engine.specs.inside.LoadedFiles.{Finds}
 pub use Rattle.bench_engine.specs.inside.Meeting.{Meets}

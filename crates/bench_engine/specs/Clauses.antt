@@ -3,14 +3,13 @@ pub use Rattle.bench_engine.specs.Contents.{arange_contents, array_contents, arr
 pub use Rattle.bench_engine.specs.Headline.{AnswersMeaning, Meaning, meaning_of}
 pub use Rattle.bench_engine.specs.IndexLists.{array_by_items, names_in_index, names_in_item, taken}
 pub use Rattle.bench_engine.specs.KeptBytes.{KeepsForUndo, KeepsItems}
-pub use Rattle.bench_engine.specs.Machine.{OperandValues, argument_items, argument_values, bound_new, changed_with, compared_literal, compute_outcome, creation_outcome, literal_scalar, literal_value, literal_values, names_in_argument, names_in_operand, names_in_viewing, new_items, operand_of_literal, operand_part, operand_values, operation_on, operation_scalar, operation_with, question_outcome, updated, updated_items, view_outcome, write_outcome, write_reply}
-pub use Rattle.bench_engine.specs.Memory.{MayAnswer, bound_in_computation, bound_in_question}
+pub use Rattle.bench_engine.specs.Machine.{OperandValues, argument_items, argument_values, bound_in_computation, bound_new, changed_with, compared_literal, compute_outcome, computed_contents, creation_outcome, literal_scalar, literal_value, literal_values, names_in_argument, names_in_operand, names_in_viewing, new_items, operand_of_literal, operand_part, operand_values, operation_on, operation_scalar, operation_with, origin_of, question_outcome, updated, updated_items, view_outcome, write_outcome, write_reply}
+pub use Rattle.bench_engine.specs.Memory.{MayAnswer, bound_in_question}
 pub use Rattle.bench_engine.specs.Replies.{Reply, Tells, array_words, bound_text, descr_text, info_text, names_text, order_text, origin_word, yes_or_no}
 pub use Rattle.bench_engine.specs.Steps.{bound_loaded, store_refusal, world}
 pub use Rattle.bench_engine.specs.Words.{Answers, Argument, Array, Bind, Boolean, Broadcast, Counts, Gives, Indexed, IsNumber, IsPermutation, Load, Reshaped, Save, ScalarDescr, Sends, SendsPart, Shows, State, Supplies, Transposed, Whole, blocks, can_cast, cast_item, compared_item, count, decode_item, has_room_for, index_item_of, index_items, is_basic, is_bound, item_from, item_size, list_all, literal_number, max_bytes, max_items, range_count, size}
 unfoldable pub use Rattle.bench_engine.specs.Words.{integer_compared_result, item_value, item_values, offsets, promote, range_items, shape_of}
 pub use Rattle.bench_engine.specs.inside.Assigns.{Fitted, IsAimed}
-pub use Rattle.bench_engine.specs.inside.Computed.{computed_contents, origin_of}
 pub use Rattle.bench_engine.specs.inside.Contract.{Carried, CarriesOut}
 pub use Rattle.bench_engine.specs.inside.LoadedFiles.{Finds}
 pub use Rattle.bench_engine.specs.inside.Meeting.{Meets}

@@ -72,9 +72,7 @@ integer_scalar _ = Err NotForThisKind
 
 -- the same for the text of a descriptor
 unfoldable pub range_scalar : List ℕ → Result Scalar Refusal
-range_scalar descr = do
-  descr ← descriptor descr
-  integer_scalar descr
+range_scalar descr = descriptor descr >>= integer_scalar
 
 -- arange D a b s
 unfoldable pub arange_contents : List ℕ → ℤ → ℤ → ℤ → Result Contents Refusal

@@ -4,6 +4,7 @@ pub mod IndexLists
 pub mod KeptBytes
 pub mod Machine
 pub mod Memory
+pub mod NewArrayLaws
 pub mod Replies
 pub mod Sessions
 pub mod Steps

@@ -1,29 +1,20 @@
 -- How a command may be answered: by a step of the machine, or, only where it may lack memory, as out of memory.
 use Rattle.std.specs.Prelude.{◌⊎◌, ℕ, Bool, true, false, IsTrue, ◌&&◌, ◌++◌, List, [], ◌∷◌, nat_lt}
-use Rattle.bench_engine.specs.Words.{list_all, OutOfMemory, Computation, Value, Question, Command, State, is_bound}
-use Rattle.script_lang.specs.declared.command.Computation.TheVariants as computation
+use Rattle.bench_engine.specs.Words.{list_all, OutOfMemory, Value, Question, Command, State, is_bound}
 use Rattle.script_lang.specs.declared.command.Value.TheVariants as value
 use Rattle.script_lang.specs.declared.command.Question.TheVariants as question
 use Rattle.script_lang.specs.declared.command.Command.TheVariants as command
 use Rattle.bench_engine.specs.IndexLists.{names_in_index}
-use Rattle.bench_engine.specs.Machine.{names_in_viewing, names_in_operand, names_in_argument}
+use Rattle.bench_engine.specs.Machine.{names_in_viewing, names_in_argument, bound_in_computation}
 use Rattle.bench_engine.specs.Replies.{Reply}
 use Rattle.bench_engine.specs.Steps.{World, Refuses, Step}
 
 -- ---- the names that must be bound for a command, from left to right
 
-abbrev pub bound_in_computation : Computation → List (List ℕ)
-bound_in_computation (computation.Duplicate source order) = source ∷ []
-bound_in_computation (computation.Cast source descr) = source ∷ []
-bound_in_computation (computation.Combine op left right) = names_in_operand left ++ names_in_argument right
-bound_in_computation (computation.Transform op operand) = names_in_operand operand
-bound_in_computation (computation.Reduce reduction source axis keep) = source ∷ []
-
 abbrev pub bound_in_value : Value → List (List ℕ)
-bound_in_value (value.Make descr items) = []
 bound_in_value (value.View source how) = source ∷ names_in_viewing how
 bound_in_value (value.Compute computation) = bound_in_computation computation
-bound_in_value (value.Load file) = []
+bound_in_value _ = []
 
 abbrev pub bound_in_question : Question → List (List ℕ)
 bound_in_question (question.Print name) = name ∷ []
@@ -45,13 +36,9 @@ must_be_bound command.Undo = []
 -- is an answer of the store. `del` asks for memory only to keep the state before it, and `undo` never does.
 abbrev pub asks_for_memory : State → Command → Bool
 asks_for_memory s (command.Bind name (value.Load file)) = false
-asks_for_memory s (command.Bind name value) = true
-asks_for_memory s (command.Set name index argument) = true
-asks_for_memory s (command.Update name index op argument) = true
 asks_for_memory s (command.Delete name) = nat_lt 0 s.depth
-asks_for_memory s (command.Ask question) = true
-asks_for_memory s (command.Save name file) = true
 asks_for_memory s command.Undo = false
+asks_for_memory s _ = true
 
 -- whether a command may be refused as out of memory: not if one of the names that must be bound is unbound
 abbrev pub may_lack_memory : State → Command → Bool

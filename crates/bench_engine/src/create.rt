@@ -1,5 +1,5 @@
 //! `X = zeros ..`, `full`, `arange`, `array`: bind a name to a new array.
-ghost use Rattle.std.specs.Prelude.{◌≡◌, IfOk, ◌≤◌, ◌-◌, ◌*◌, length, map, min, replicate, true};
+ghost use Rattle.std.specs.Prelude.{◌≡◌, IfOk, ◌≤◌, ◌-◌, ◌*◌, List, ℕ, length, map, min, replicate, true};
 ghost use Rattle.bench_engine.specs.Clauses.{Gives, Answers, item_size, decode_item, item_value, item_values, blocks, IsNumber, size, max_bytes, max_items, count, shape_of, range_count, range_items, has_room_for, ScalarDescr, array_type, zeros_contents, full_contents, array_contents, arange_contents, contents_of, integer_scalar, range_scalar, held, CarriesOut, bound_new, creation_outcome, Counts};
 
 use crate::replies::{Origin, set_bound_text};
@@ -37,24 +37,37 @@ pub fn shape_of(alloc: Global, lengths: &Lengths) -> Result<Shape, Refusal>
     Shape::try_new(alloc, axes.as_slice())
 }
 
-/// The element type and the shape of a new array.
-fn array_type(alloc: Global, descr: &Text, lengths: &Lengths) -> Result<(Descr, Shape), Refusal>
-    ensures value { Gives (λ t. (t.0, t.1)) result (array_type descr.now lengths.now) }
+/// The element type and the shape of a new array. The type is refused before the shape.
+pub fn array_type(
+    alloc: Global,
+    descr: &[u8],
+    shape: Result<Shape, Refusal>,
+) -> Result<(Descr, Shape), Refusal>
+    ensures value { (lengths : List ℕ) → Gives (λ s. s) shape (shape_of lengths)
+        → Gives (λ t. (t.0, t.1)) result (array_type descr.now lengths) }
     ensures bytes { IfOk result (λ t. count t.1 * item_size t.0 ≤ max_bytes) }
 {
-    let descr = descr_read(alloc, descr.as_slice())?;
-    let shape = shape_of(alloc, lengths)?;
+    let descr = descr_read(alloc, descr)?;
+    let shape = shape?;
     if shape.items() * descr.size() > MAX_BYTES {
         return Err(Refusal::TooLarge);
     }
     Ok((descr, shape))
 }
 
+/// The same for the text and the lengths that a script gives.
+fn type_in_script(alloc: Global, descr: &Text, lengths: &Lengths) -> Result<(Descr, Shape), Refusal>
+    ensures value { Gives (λ t. (t.0, t.1)) result (array_type descr.now lengths.now) }
+    ensures bytes { IfOk result (λ t. count t.1 * item_size t.0 ≤ max_bytes) }
+{
+    array_type(alloc, descr.as_slice(), shape_of(alloc, lengths))
+}
+
 /// `zeros D S`
 fn zeros(alloc: Global, descr: &Text, lengths: &Lengths) -> Result<Owned, Refusal>
     ensures { Gives held result (zeros_contents descr.now lengths.now) }
 {
-    let (descr, shape) = array_type(alloc, descr, lengths)?;
+    let (descr, shape) = type_in_script(alloc, descr, lengths)?;
     Owned::zeroed(alloc, descr, &shape)
 }
 
@@ -74,7 +87,7 @@ pub fn filled(alloc: Global, item: &[u8], items: usize) -> Result<RawBlock, Allo
 fn full(alloc: Global, descr: &Text, lengths: &Lengths, literal: &Literal) -> Result<Owned, Refusal>
     ensures { Gives held result (full_contents descr.now lengths.now literal.now) }
 {
-    let (descr, shape) = array_type(alloc, descr, lengths)?;
+    let (descr, shape) = type_in_script(alloc, descr, lengths)?;
     let item = item_of(alloc, &descr, literal)?;
     let block = filled(alloc, item.as_slice(), shape.items())?;
     drop(item);
@@ -104,7 +117,7 @@ fn array(
 ) -> Result<Owned, Refusal>
     ensures { Gives held result (array_contents descr.now lengths.now literals.now) }
 {
-    let (descr, shape) = array_type(alloc, descr, lengths)?;
+    let (descr, shape) = type_in_script(alloc, descr, lengths)?;
     let literals = literals.as_slice();
     if literals.len() != shape.items() {
         return Err(Refusal::NumberOfValues);

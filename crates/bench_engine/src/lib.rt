@@ -20,7 +20,9 @@ mod view;
 mod write;
 
 pub use array_print::WriteFault;
+pub use create::{array_type, bind_new};
 pub use engine::{answer, execute};
+pub use replies::Origin;
 pub use reply_text::ReplyText;
 pub use runner::{RunFault, ScriptSource, run};
 pub use session::{Session, Summary};

@@ -1,6 +1,6 @@
 -- What stays true for a record being built when fields and padding are added to it.
 use Rattle.std.proofs.Common.{◌≡◌, ◌≤◌, ◌<◌, ◌+◌, ℕ, Bool, true, false, List, [], ◌∷◌, ◌++◌, length, refl, IsTrue, arith, length-append, ◌||◌}
-use Rattle.elem_descr.proofs.Words.{IsDistinct, list_all, AllByRecursion, bytes_eq, list_all-append, map-append, Field, is_legal_name, IsLegal, listed, fields_of, item_size, leaves_of, Partial, IsShallow, empty, is_taken, IsPartial, names}
+use Rattle.elem_descr.proofs.Words.{IsDistinct, AllByRecursion, bytes_eq, list_all-append, map-append, Field, is_legal_name, IsLegal, listed, item_size, leaves_of, Partial, IsShallow, empty, is_taken, IsPartial, names}
 use Rattle.elem_descr.proofs.FieldLaws.{fields_of-listed}
 use Rattle.elem_descr.proofs.FieldLists.{in_order_push, InOrder-later, within_push, depth_push, leaf_count-push}
 

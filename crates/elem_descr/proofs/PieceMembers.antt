@@ -1,8 +1,8 @@
 -- The member at the front of a text is the same by its pieces and by its bytes.
 use Rattle.std.proofs.Common.{◌≡◌, ◌≤◌, ◌+◌, inl, inr, ℕ, zero, suc, Bool, true, false, ◌&&◌, List, [], ◌∷◌, ◌++◌, take, drop, codes, Option, Some, None, Result, Ok, Err, cond, if◌then◌else◌, refl, sym, ap, subst, ◌∙◌, arith, unwrap_or}
-use Rattle.elem_descr.proofs.Words.{option_map, is_ascii_digit, list_all, prefix_len, cases_eq, cases_Bool, and_parts, nat_tests, take-append-drop, Refusal, BadDescriptor, DescriptorLeftOut, Scalar, Descr, Mark, Aligned, Native, LittleMark, BigMark, ◌>>=◌, is_one_of, Member, Value, Pad, Opened, is_empty, mark_meant, number_letter, number_member, count_of, text_member, is_left_out, other_member, lettered, Behind, nothing, between_colons, lone_colon, Piece, letter, opening, is_colon, pieces, PieceKind, member, part_of, begins_with_digit, after, is_opened, lettered_before, after_count, member_at}
+use Rattle.elem_descr.proofs.Words.{option_map, is_ascii_digit, list_all, prefix_len, cases_eq, cases_Bool, and_parts, nat_tests, take-append-drop, Refusal, BadDescriptor, DescriptorLeftOut, Scalar, Descr, Mark, Aligned, Native, LittleMark, BigMark, ◌>>=◌, is_one_of, Member, Value, Pad, Opened, is_empty, mark_meant, number_letter, number_member, count_of, text_member, other_member, lettered, Behind, nothing, between_colons, lone_colon, Piece, letter, opening, is_colon, pieces, PieceKind, member, part_of, begins_with_digit, after, is_opened, lettered_before, after_count, member_at}
 use Rattle.elem_descr.proofs.Fronts.{front_passes, one_more, some_left}
-use Rattle.elem_descr.proofs.Pieces.{behind, pieces-colon, pieces-byte, pieces-letter, pieces-opening, pieces-digits, CountsNothing, LastDigit, last_digit}
+use Rattle.elem_descr.proofs.Pieces.{behind, pieces-colon, pieces-byte, pieces-letter, pieces-opening, pieces-digits, CountsNothing, last_digit}
 
 -- ---- steps that may be refused
 
@@ -126,7 +126,7 @@ lettered_met mark later digits b rest = by_number (number_letter mark b)
 
     by_number : (number : Option Scalar) → after_pieces (unwrap_or (option_map (number_member digits) number) (other_member digits b)) ≡ after_turns (unwrap_or (option_map (number_member digits) number) (other_member digits b))
     by_number (Some scalar) = by_empty (is_empty digits) scalar
-    by_number None = by_tests (is_one_of (codes "s") b) (is_one_of (codes "x") b) (is_left_out b) (count_of digits)
+    by_number None = by_tests (is_one_of (codes "s") b) (is_one_of (codes "x") b) (is_one_of (codes "cnNPpefdgOZuwt&X(") b) (count_of digits)
 
 -- ---- a member at the front
 

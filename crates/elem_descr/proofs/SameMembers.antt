@@ -1,7 +1,7 @@
 -- The members of a record are the same by their pieces as when they are read in turns.
 use Rattle.std.proofs.Common.{◌≡◌, ◌≤◌, ◌<◌, ◌+◌, ℕ, zero, suc, Bool, true, false, not, ◌&&◌, List, [], ◌∷◌, length, take, drop, ◌++◌, codes, inl, inr, Option, Some, None, Result, Ok, Err, IfOk, if◌then◌else◌, refl, sym, ap, subst, ◌∙◌, arith, nat_le, decimal}
 use Rattle.elem_descr.specs.FormatTexts.{blank, marking}
-use Rattle.elem_descr.proofs.Words.{PieceKind, Aligned, Native, LittleMark, BigMark, at_begin, behind_member, length-drop, is_ascii_digit, prefix_len, next_multiple_of, option_map, cases_Bool, leb-false, lt-leb, Refusal, BadDescriptor, DescriptorLeftOut, TooLarge, Scalar, Descr, ScalarDescr, RecordDescr, Body, Mark, ◌>>=◌, check, leaves_of, is_legal_name, is_one_of, size, Member, Value, Pad, Opened, own_alignment, aligned_to, Partial, empty, if_small, with_field, checked_name, added, widened, Behind, nothing, between_colons, lone_colon, Piece, letter, stray, is_colon, pieces, closed_body, part_of, called, next_name, with_scalar, with_pad, with_record, opened, unnamed, Reading, begun, within, beyond, closed_in, in_record, step, read_on, name_at, after, marked, is_named, is_opened, lettered_before, after_count, member_at, fitting, capped, as_held, named, Later, scalar_in, pad_in, body_in, taken_in, next_field, closing, turn, members, record_within, widened-capped, bind_same}
+use Rattle.elem_descr.proofs.Words.{PieceKind, Aligned, Native, LittleMark, BigMark, at_begin, behind_member, length-drop, is_ascii_digit, prefix_len, next_multiple_of, option_map, cases_Bool, leb-false, lt-leb, Refusal, BadDescriptor, DescriptorLeftOut, TooLarge, Scalar, Descr, ScalarDescr, RecordDescr, Body, Mark, ◌>>=◌, check, leaves_of, is_legal_name, is_one_of, size, Member, Value, Pad, Opened, own_alignment, aligned_to, Partial, empty, if_small, with_field, checked_name, added, widened, Behind, nothing, between_colons, lone_colon, Piece, letter, stray, is_colon, pieces, closed_body, part_of, called, with_member, with_pad, opened, unnamed, Reading, begun, within, beyond, closed_in, in_record, step, read_on, name_at, after, marked, is_named, is_opened, lettered_before, after_count, member_at, fitting, capped, as_held, named, Later, scalar_in, pad_in, body_in, taken_in, next_field, closing, turn, members, record_within, widened-capped, bind_same}
 use Rattle.elem_descr.proofs.Pieces.{name_end, behind_colon, behind, name_at-ended, ended_name, pieces-colon, behind-colon, behind-other, pieces-letter}
 use Rattle.elem_descr.proofs.PieceMembers.{bind_bind, one_of_one, sign_cases, Then, front, met, meant, member_met}
 
@@ -178,11 +178,11 @@ abbrev further : Mark → List ℕ → Partial → Result Later Refusal
 further mark rest q = Ok (q, mark, rest)
 
 -- a name, and a field made with it
-with_name : (called : Result (List ℕ) Refusal) (good : List ℕ → Result (Unit {0}) Refusal) (made : List ℕ → Result Partial Refusal) (mark : Mark) (rest : List ℕ) → ((called >>= tupled rest) >>= λ n. good n.0 >>= λ _. made n.0 >>= further mark n.1) ≡ (((called >>= λ bytes. good bytes >>= λ _. Ok bytes) >>= made) >>= further mark rest)
+with_name : (called : Result (List ℕ) Refusal) (good : List ℕ → Result (Unit {0}) Refusal) (made : List ℕ → Result Partial Refusal) (mark : Mark) (rest : List ℕ) → ((called >>= tupled rest) >>= λ n. good n.0 >>= λ _. made n.0 >>= further mark n.1) ≡ ((called >>= λ bytes. good bytes >>= λ _. made bytes) >>= further mark rest)
 with_name (Err e) good made mark rest = refl
 with_name (Ok bytes) good made mark rest = by_good (good bytes)
   where
-    by_good : (r : Result (Unit {0}) Refusal) → (r >>= λ _. made bytes >>= further mark rest) ≡ (((r >>= λ _. Ok bytes) >>= made) >>= further mark rest)
+    by_good : (r : Result (Unit {0}) Refusal) → (r >>= λ _. made bytes >>= further mark rest) ≡ ((r >>= λ _. made bytes) >>= further mark rest)
     by_good (Err e) = refl
     by_good (Ok u) = refl
 
@@ -197,7 +197,7 @@ added_large p bytes alignment scalar large = by_leaves (nat_le (p.leaves + 1) 20
         let over : nat_le (next_multiple_of p.size alignment + size scalar) 65536 ≡ false = lt-leb _ _ (omega (arith, leb-false (size scalar) 65536 large)) in
         rw over refl
 
-scalar_same : (mark : Mark) (p : Partial) (scalar : Scalar) (rest : List ℕ) → scalar_in mark p (fitting scalar) rest ≡ (with_scalar mark p scalar (behind rest).0 >>= further mark (behind rest).1)
+scalar_same : (mark : Mark) (p : Partial) (scalar : Scalar) (rest : List ℕ) → scalar_in mark p (fitting scalar) rest ≡ (with_member mark p (behind rest).0 (own_alignment scalar) (ScalarDescr scalar) >>= further mark (behind rest).1)
 unfolding scalar_in
 scalar_same mark p scalar rest =
     elim (cases_Bool (nat_le (size scalar) 65536)) [
@@ -205,18 +205,18 @@ scalar_same mark p scalar rest =
       | inr large ↦
           let none : fitting scalar ≡ None = rw large refl in
           let refused : (λ bytes. Err TooLarge) ≡ field = λ i bytes. sym (added_large p bytes (aligned_to mark (own_alignment scalar)) scalar large) i in
-          ap (λ value. scalar_in mark p value rest) none ∙ named_first (λ bytes. Err TooLarge) ∙ ap (λ made. (next_name p (behind rest).0 >>= made) >>= further mark (behind rest).1) refused
+          ap (λ value. scalar_in mark p value rest) none ∙ named_first (λ bytes. Err TooLarge) ∙ ap (λ made. (called (length p.fields) (behind rest).0 >>= λ bytes. checked_name p bytes >>= λ _. made bytes) >>= further mark (behind rest).1) refused
     ]
   where
     field : List ℕ → Result Partial Refusal
     field bytes = added p bytes (aligned_to mark (own_alignment scalar)) (ScalarDescr scalar)
 
-    named_first : (made : List ℕ → Result Partial Refusal) → (named (length p.fields) rest >>= λ n. checked_name p n.0 >>= λ _. made n.0 >>= further mark n.1) ≡ ((next_name p (behind rest).0 >>= made) >>= further mark (behind rest).1)
+    named_first : (made : List ℕ → Result Partial Refusal) → (named (length p.fields) rest >>= λ n. checked_name p n.0 >>= λ _. made n.0 >>= further mark n.1) ≡ ((called (length p.fields) (behind rest).0 >>= λ bytes. checked_name p bytes >>= λ _. made bytes) >>= further mark (behind rest).1)
     named_first made =
         ap (λ (r : Result (List ℕ × List ℕ) Refusal). r >>= λ n. checked_name p n.0 >>= λ _. made n.0 >>= further mark n.1) (named_called (length p.fields) rest)
         ∙ with_name (called (length p.fields) (behind rest).0) (checked_name p) made mark (behind rest).1
 
-body_same : (mark : Mark) (p : Partial) (body : Body) (rest : List ℕ) → body_in mark p body rest ≡ (with_record mark p body (behind rest).0 >>= further body.mark (behind rest).1)
+body_same : (mark : Mark) (p : Partial) (body : Body) (rest : List ℕ) → body_in mark p body rest ≡ (with_member mark p (behind rest).0 body.alignment (RecordDescr body.whole) >>= further body.mark (behind rest).1)
 unfolding body_in
 body_same mark p body rest =
     let made : List ℕ → Result Partial Refusal = λ bytes. added p bytes (aligned_to mark body.alignment) (RecordDescr body.whole) in
@@ -251,8 +251,8 @@ keeps_added : (p : Partial) (bytes : List ℕ) (alignment : ℕ) (descr : Descr)
 unfolding added
 keeps_added p bytes alignment descr = keeps_bind p (check (nat_le (p.leaves + length (leaves_of descr)) 2048) TooLarge) (λ _. if_small (with_field p bytes alignment descr)) (λ _. keeps_small p (with_field p bytes alignment descr) (nat_le (with_field p bytes alignment descr).size 65536) refl)
 
-keeps_named : (p : Partial) (behind : Behind) (alignment : ℕ) (descr : Descr) → Keeps p (next_name p behind >>= λ bytes. added p bytes alignment descr)
-keeps_named p behind alignment descr = keeps_bind p (next_name p behind) _ (λ bytes. keeps_added p bytes alignment descr)
+keeps_named : (mark : Mark) (p : Partial) (behind : Behind) (own : ℕ) (descr : Descr) → Keeps p (with_member mark p behind own descr)
+keeps_named mark p behind own descr = keeps_bind p (called (length p.fields) behind) _ (λ bytes. keeps_bind p (checked_name p bytes) _ (λ _. keeps_added p bytes (aligned_to mark own) descr))
 
 keeps_pad : (p : Partial) (n : ℕ) (behind : Behind) → Keeps p (with_pad p n behind)
 unfolding widened
@@ -297,13 +297,13 @@ opened_same n same (suc levels) turns around text ends few enough goes mark p in
     let later : Ends = λ body. (body_then body >>= others (suc levels) turns) >>= ends in
     let read_members = members (record_within levels) (length inner) mark (empty levels p.leaves) inner in
     same levels (length inner) mark (empty levels p.leaves) ((mark, p) ∷ around) inner later (omega arith) (omega arith) refl
-    (λ body rest l. others_same n same (suc levels) turns around text ends few enough goes body.mark p rest level (omega arith) (with_record mark p body (behind rest).0) (keeps_named p (behind rest).0 (aligned_to mark body.alignment) (RecordDescr body.whole))
+    (λ body rest l. others_same n same (suc levels) turns around text ends few enough goes body.mark p rest level (omega arith) (with_member mark p (behind rest).0 body.alignment (RecordDescr body.whole)) (keeps_named mark p (behind rest).0 body.alignment (RecordDescr body.whole))
     ∙ ap (λ r. (r >>= others (suc levels) turns) >>= ends) (sym (body_same mark p body rest)))
     ∙ bind_three read_members body_then (others (suc levels) turns) ends
 
 taken_same : (n : ℕ) → Same n → (levels turns : ℕ) (around : List (Mark × Partial)) (text : List ℕ) (ends : Ends) → length text ≤ suc n → length text ≤ suc turns → Goes around text ends → (mark : Mark) (p : Partial) (it : Member) (rest : List ℕ) → p.levels ≡ levels → length rest < length text → met (then_in mark p around) it rest ≡ ((taken_in (record_within levels) mark p (as_held it) rest >>= others levels turns) >>= ends)
 taken_same n same levels turns around text ends few enough goes mark p (Value scalar) rest level less =
-    others_same n same levels turns around text ends few enough goes mark p rest level less (with_scalar mark p scalar (behind rest).0) (keeps_named p (behind rest).0 (aligned_to mark (own_alignment scalar)) (ScalarDescr scalar))
+    others_same n same levels turns around text ends few enough goes mark p rest level less (with_member mark p (behind rest).0 (own_alignment scalar) (ScalarDescr scalar)) (keeps_named mark p (behind rest).0 (own_alignment scalar) (ScalarDescr scalar))
     ∙ ap (λ r. (r >>= others levels turns) >>= ends) (sym (scalar_same mark p scalar rest))
 taken_same n same levels turns around text ends few enough goes mark p (Pad count) rest level less =
     others_same n same levels turns around text ends few enough goes mark p rest level less (with_pad p count (behind rest).0) (keeps_pad p count (behind rest).0)

@@ -1,15 +1,14 @@
 -- Names from std, from the crates below and from `specs/`, which the proofs use.
 pub use Rattle.elem_descr.specs.BuildingLaws.{added_ok, field_of, grown, multiple_of_one, name_ok, names, not_taken, packed, record_type, widened-capped}
-pub use Rattle.elem_descr.specs.DescrTexts.{begins_with_digit}
 pub use Rattle.elem_descr.specs.DescriptorLaws.{InOrder-before, InOrder-within, field_within, first_field, listed-fields_of, rest_at, some_depth, some_leaves, weight-one}
 pub use Rattle.elem_descr.specs.Descriptors.{AreNamedWithin, InOrder, IsLegal, before, depth, fields_of, leaf_count, listed, names_of}
 pub use Rattle.elem_descr.specs.DigitLaws.{digits-decimal, value_of-decimal}
 pub use Rattle.elem_descr.specs.Encoding.{decode, size}
 pub use Rattle.elem_descr.specs.EncodingLaws.{decode_encode}
 pub use Rattle.elem_descr.specs.Fields.{Fields, Structure, no_more, record_field, scalar_field, total}
-pub use Rattle.elem_descr.specs.FormatLetters.{Member, Opened, Pad, Value, aligned_to, count_of, is_aligning, is_empty, is_left_out, lettered, letters, mark_meant, number_letter, number_member, other_member, own_alignment, text_member}
+pub use Rattle.elem_descr.specs.FormatLetters.{Member, Opened, Pad, Value, aligned_to, count_of, is_aligning, is_empty, lettered, mark_meant, number_letter, number_member, other_member, own_alignment, text_member}
 pub use Rattle.elem_descr.specs.FormatPieces.{Behind, Piece, between_colons, brace, byte_onto, cut_at_colons, digit_onto, is_colon, letter, letter_onto, lone_colon, nothing, opening, pieces, pieces_between, stray}
-pub use Rattle.elem_descr.specs.FormatTexts.{PieceKind, Reading, at_begin, begun, behind_member, beyond, called, closed_body, closed_in, complete, format, in_record, member, next_name, opened, part_of, read_on, step, unnamed, with_pad, with_record, with_scalar, within}
+pub use Rattle.elem_descr.specs.FormatTexts.{PieceKind, Reading, at_begin, begun, behind_member, beyond, called, closed_body, closed_in, complete, format, in_record, member, opened, part_of, read_on, step, unnamed, with_member, with_pad, within}
 pub use Rattle.elem_descr.specs.ItemLaws.{entry_within, leaf_count-before, leaf_within, leaves_from-before, leaves_in_order, length-leaves_from}
 pub use Rattle.elem_descr.specs.Items.{AreInOrder, LeavesInOrder, decode_item, encode_item, field_at, fields, item_size, leaves_from, leaves_in, leaves_of, moved_leaf, no_field, no_leaf}
 pub use Rattle.elem_descr.specs.Names.{is_field_name_byte, is_legal_name}
@@ -42,7 +41,7 @@ pub use Rattle.elem_descr.specs.declared.scalar.Scalar.TheVariants.{Bool as Bool
 pub use Rattle.elem_descr.specs.declared.scalar.Width.TheVariants.{Eight, Four, Two}
 pub use Rattle.elem_descr.specs.inside.Partials.{IsPartial}
 pub use Rattle.elem_descr.specs.inside.Records.{IsRecord}
-pub use Rattle.elem_descr.specs.inside.Turns.{Later, Reader, after, after_count, alone, as_held, capped, closing, fitting, format_in_turns, held_at, held_member, is_named, is_opened, lettered_before, marked, member_at, members, name_at, named, taken_in, turn}
+pub use Rattle.elem_descr.specs.inside.Turns.{Later, Reader, after, after_count, alone, as_held, begins_with_digit, capped, closing, fitting, format_in_turns, held_at, held_member, is_named, is_opened, lettered_before, marked, member_at, members, name_at, named, taken_in, turn}
 unfoldable pub use Rattle.elem_descr.specs.inside.Turns.{body_in, next_field, nothing_follows, pad_in, record_alone, record_within, scalar_alone, scalar_in}
 pub use Rattle.std.proofs.Math.Seq.{drop-append-add, drop-append_seam}
 pub use Rattle.std.proofs.lemmas.Bool.{and_parts, cases_Bool, cases_eq, leb-false}

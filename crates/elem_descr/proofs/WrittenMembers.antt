@@ -1,6 +1,6 @@
 -- A member that is written is read back as the same member.
 use Rattle.std.proofs.Common.{◌≡◌, ◌≤◌, ◌<◌, ℕ, zero, suc, min, Bool, true, false, List, [], ◌∷◌, ◌++◌, length, Some, None, Ok, refl, ap, ◌∙◌, not, arith, nat_le, ◌&&◌, decimal}
-use Rattle.elem_descr.proofs.Words.{is_ascii_digit, list_all, prefix_len, nat_tests, decimal_nonempty, take-append_seam, drop-append_seam, le-leb, and_parts, min-eq_left, Little, Big, Two, Four, Eight, Scalar, BoolScalar, Byte, Int, Bytes, Mark, LittleMark, BigMark, size, value_of, is_legal_name, is_field_name_byte, Value, count_of, text_member, is_colon, after, marked, after_count, member_at, held_at, name_at, named, written_mark, written_count, written_letter, digits-decimal, value_of-decimal}
+use Rattle.elem_descr.proofs.Words.{is_ascii_digit, list_all, prefix_len, nat_tests, decimal_nonempty, take-append_seam, drop-append_seam, le-leb, and_parts, min-eq_left, Little, Big, Two, Four, Eight, Scalar, BoolScalar, Byte, Int, Bytes, Mark, LittleMark, BigMark, size, value_of, is_legal_name, is_field_name_byte, Value, count_of, text_member, is_colon, after, marked, after_count, member_at, held_at, named, written_mark, written_count, written_letter, digits-decimal, value_of-decimal}
 use Rattle.elem_descr.specs.declared.format_text.member.Member.TheVariants as held
 use Rattle.elem_descr.proofs.Fronts.{some_left}
 

@@ -1,5 +1,5 @@
 -- A descriptor in a script: a type string or a format text.
-use Rattle.std.specs.Prelude.{ℕ, Bool, List, [], ◌∷◌, codes, ◌&&◌, ◌||◌, if◌then◌else◌, Result, Ok}
+use Rattle.std.specs.Prelude.{ℕ, Bool, List, [], ◌∷◌, codes, ◌&&◌, if◌then◌else◌, Result, Ok}
 use Rattle.std.proofs.Common.{false}
 use Rattle.elem_descr.specs.Words.{is_ascii_digit}
 use Rattle.elem_descr.specs.declared.refusal.Refusal.{Refusal}
@@ -8,17 +8,13 @@ use Rattle.elem_descr.specs.declared.descr.Descr.TheVariants.{Scalar as ScalarDe
 use Rattle.elem_descr.specs.Refusals.{◌>>=◌}
 use Rattle.elem_descr.specs.TypeStrings.{is_one_of, typestr}
 use Rattle.elem_descr.specs.TypeStrings as type_strings
-use Rattle.elem_descr.specs.FormatLetters.{is_empty}
 use Rattle.elem_descr.specs.FormatTexts.{format}
 
-abbrev pub begins_with_digit : List ℕ → Bool
-begins_with_digit [] = false
-begins_with_digit (b ∷ rest) = is_ascii_digit b
-
--- a kind letter of NumPy followed by a digit, or `S` alone
+-- `S` alone, or a kind letter of NumPy followed by a digit
 abbrev pub is_kind : List ℕ → Bool
+is_kind (letter ∷ []) = is_one_of (codes "S") letter
+is_kind (letter ∷ (next ∷ rest)) = is_one_of (codes "biuSfcmMOUV") letter && is_ascii_digit next
 is_kind [] = false
-is_kind (letter ∷ rest) = (is_one_of (codes "biuSfcmMOUV") letter && begins_with_digit rest) || (is_one_of (codes "S") letter && is_empty rest)
 
 -- an optional byte-order mark, followed by such a kind
 abbrev pub is_type_string : List ℕ → Bool

@@ -1,5 +1,5 @@
 -- Format texts of PEP 3118: the marks, the letters, and the members that they mean.
-use Rattle.std.specs.Prelude.{ℕ, Bool, List, [], ◌∷◌, length, codes, find, nat_eq, if◌then◌else◌, Option, unwrap_or, Result, Ok, Err}
+use Rattle.std.specs.Prelude.{ℕ, Bool, List, [], ◌∷◌, length, codes, find, nat_eq, if◌then◌else◌, Option, Some, unwrap_or, Result, Ok, Err}
 use Rattle.std.proofs.Common.{zero, suc, true, false}
 use Rattle.elem_descr.specs.Words.{option_map}
 use Rattle.elem_descr.specs.declared.refusal.Refusal.{Refusal}
@@ -7,13 +7,14 @@ use Rattle.elem_descr.specs.declared.refusal.Refusal.TheVariants.{BadDescriptor,
 use Rattle.elem_descr.specs.declared.scalar.Order.{Order}
 use Rattle.elem_descr.specs.declared.scalar.Order.TheVariants.{Little, Big}
 use Rattle.elem_descr.specs.declared.scalar.Width.{Width}
-use Rattle.elem_descr.specs.declared.scalar.Width.TheVariants.{Two, Four, Eight}
+use Rattle.elem_descr.specs.declared.scalar.Width.TheVariants.{Four, Eight}
 use Rattle.elem_descr.specs.declared.scalar.Scalar.{Scalar}
-use Rattle.elem_descr.specs.declared.scalar.Scalar.TheVariants.{Bool as BoolScalar, Byte, Int, Bytes}
+use Rattle.elem_descr.specs.declared.scalar.Scalar.TheVariants.{Int, Bytes}
 use Rattle.elem_descr.specs.declared.format_text.mark.Mark.{Mark}
 use Rattle.elem_descr.specs.declared.format_text.mark.Mark.TheVariants.{Aligned, Native, Little as LittleMark, Big as BigMark}
 use Rattle.elem_descr.specs.Encoding.{size}
-use Rattle.elem_descr.specs.TypeStrings.{is_one_of, value_of}
+use Rattle.elem_descr.specs.TypeStrings.{is_one_of, numbers, value_of}
+use Rattle.elem_descr.specs.WrittenFormats.{written_letter}
 
 abbrev pub is_empty : List ℕ → Bool
 is_empty text = nat_eq (length text) 0
@@ -41,24 +42,12 @@ abbrev pub is_aligning : Mark → Bool
 is_aligning Aligned = true
 is_aligning _ = false
 
--- the letters of bools and integers
-abbrev pub letters : Mark → List (List ℕ × Scalar)
-letters mark =
-    (codes "?", BoolScalar)
-    ∷ ((codes "b", Byte true)
-    ∷ ((codes "B", Byte false)
-    ∷ ((codes "h", Int true Two (order_under mark))
-    ∷ ((codes "H", Int false Two (order_under mark))
-    ∷ ((codes "i", Int true Four (order_under mark))
-    ∷ ((codes "I", Int false Four (order_under mark))
-    ∷ ((codes "l", Int true (long_under mark) (order_under mark))
-    ∷ ((codes "L", Int false (long_under mark) (order_under mark))
-    ∷ ((codes "q", Int true Eight (order_under mark))
-    ∷ ((codes "Q", Int false Eight (order_under mark)) ∷ []))))))))))
-
--- the bool or the integer that a letter means, if any
+-- The bool or the integer that a letter means, if any: the one that it is written for, or a long integer.
 abbrev pub number_letter : Mark → ℕ → Option Scalar
-number_letter mark letter = option_map (λ entry. entry.1) (find (λ entry. is_one_of entry.0 letter) (letters mark))
+number_letter mark letter =
+    if is_one_of (codes "l") letter then Some (Int true (long_under mark) (order_under mark))
+    else if is_one_of (codes "L") letter then Some (Int false (long_under mark) (order_under mark))
+    else find (λ scalar. is_one_of (written_letter scalar) letter) (numbers (order_under mark))
 
 -- the alignment of a bool or an integer is its size, and that of a byte string is 1
 abbrev pub own_alignment : Scalar → ℕ
@@ -89,16 +78,12 @@ abbrev pub text_member : ℕ → Result Member Refusal
 text_member zero = Err DescriptorLeftOut
 text_member (suc n) = Ok (Value (Bytes (suc n)))
 
--- the unsupported letters
-abbrev pub is_left_out : ℕ → Bool
-is_left_out letter = is_one_of (codes "cnNPpefdgOZuwt&X(") letter
-
--- a member that is not a bool or an integer
+-- a member that is not a bool or an integer; the last letters here are the unsupported ones
 abbrev pub other_member : List ℕ → ℕ → Result Member Refusal
 other_member digits b =
     if is_one_of (codes "s") b then text_member (count_of digits)
     else if is_one_of (codes "x") b then Ok (Pad (count_of digits))
-    else if is_left_out b then Err DescriptorLeftOut
+    else if is_one_of (codes "cnNPpefdgOZuwt&X(") b then Err DescriptorLeftOut
     else Err BadDescriptor
 
 -- the member that a count and a letter mean

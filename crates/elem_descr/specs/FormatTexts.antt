@@ -4,7 +4,6 @@ use Rattle.std.proofs.Common.{zero, suc}
 use Rattle.elem_descr.specs.Words.{option_map}
 use Rattle.elem_descr.specs.declared.refusal.Refusal.{Refusal}
 use Rattle.elem_descr.specs.declared.refusal.Refusal.TheVariants.{BadDescriptor, DescriptorLeftOut, TooLarge}
-use Rattle.elem_descr.specs.declared.scalar.Scalar.{Scalar}
 use Rattle.elem_descr.specs.declared.descr.Descr.{Descr}
 use Rattle.elem_descr.specs.declared.descr.Descr.TheVariants.{Scalar as ScalarDescr, Record as RecordDescr}
 use Rattle.elem_descr.specs.declared.format_text.record.Body.{Body}
@@ -16,7 +15,7 @@ use Rattle.elem_descr.specs.Names.{is_legal_name}
 use Rattle.elem_descr.specs.TypeStrings.{is_one_of}
 use Rattle.elem_descr.specs.FormatLetters.{Member, Value, Pad, Opened, is_empty, mark_meant, is_aligning, own_alignment, aligned_to, lettered}
 use Rattle.elem_descr.specs.RecordBuilding.{max_size, max_depth, Partial, empty, checked_name, added, widened, closed_record}
-use Rattle.elem_descr.specs.FormatPieces.{Behind, nothing, between_colons, lone_colon, Piece, letter, opening, brace, stray, pieces}
+use Rattle.elem_descr.specs.FormatPieces.{Behind, nothing, between_colons, lone_colon, Piece, letter, opening, pieces}
 
 -- what a piece means under the current mark: a blank, a mark, a member, or the closing brace of a record
 pub data PieceKind : Type 0 where
@@ -36,8 +35,7 @@ part_of mark (letter digits b behind) =
     if is_empty digits && is_one_of (codes "}") b then Ok (closing_brace behind)
     else unwrap_or (option_map Ok (sign digits b behind)) (lettered mark digits b >>= λ it. Ok (member it behind))
 part_of mark (opening digits) = if is_empty digits then Ok (member Opened nothing) else Err DescriptorLeftOut
-part_of mark brace = Err BadDescriptor
-part_of mark (stray behind) = Err BadDescriptor
+part_of mark other = Err BadDescriptor
 
 -- Padding has no name, and neither has a scalar or a record that is the whole text.
 abbrev pub unnamed : Behind → Result (Unit {0}) Refusal
@@ -50,18 +48,12 @@ called number nothing = Ok (codes "f" ++ decimal number)
 called number (between_colons bytes) = if is_legal_name bytes then Ok bytes else Err DescriptorLeftOut
 called number lone_colon = Err BadDescriptor
 
--- the name of the next field of a record
-abbrev pub next_name : Partial → Behind → Result (List ℕ) Refusal
-next_name p behind = do
+-- a record with a field added that has this alignment of its own
+abbrev pub with_member : Mark → Partial → Behind → ℕ → Descr → Result Partial Refusal
+with_member mark p behind own descr = do
   bytes ← called (length p.fields) behind
   _ ← checked_name p bytes
-  Ok bytes
-
--- a record with a scalar added
-abbrev pub with_scalar : Mark → Partial → Scalar → Behind → Result Partial Refusal
-with_scalar mark p scalar behind = do
-  bytes ← next_name p behind
-  added p bytes (aligned_to mark (own_alignment scalar)) (ScalarDescr scalar)
+  added p bytes (aligned_to mark own) descr
 
 -- a record with padding added
 abbrev pub with_pad : Partial → ℕ → Behind → Result Partial Refusal
@@ -69,12 +61,6 @@ with_pad p n behind = do
   wider ← widened p n
   _ ← unnamed behind
   Ok wider
-
--- a record with a complete record added
-abbrev pub with_record : Mark → Partial → Body → Behind → Result Partial Refusal
-with_record mark p body behind = do
-  bytes ← next_name p behind
-  added p bytes (aligned_to mark body.alignment) (RecordDescr body.whole)
 
 -- a record at its opening brace, refused if no more levels of records are allowed
 abbrev pub opened : ℕ → ℕ → Result Partial Refusal
@@ -109,13 +95,17 @@ at_begin mark (closing_brace behind) = Err BadDescriptor
 -- it, it is the whole descriptor.
 abbrev pub closed_in : List (Mark × Partial) → Body → Behind → Result Reading Refusal
 closed_in [] body behind = unnamed behind >>= λ _. Ok (complete (RecordDescr body.whole))
-closed_in (outer ∷ around) body behind = with_record outer.0 outer.1 body behind >>= λ p. Ok (within body.mark p around)
+closed_in (outer ∷ around) body behind = do
+  p ← with_member outer.0 outer.1 behind body.alignment (RecordDescr body.whole)
+  Ok (within body.mark p around)
 
 -- a piece within a record: a member, or the end of the record
 abbrev pub in_record : Mark → Partial → List (Mark × Partial) → PieceKind → Result Reading Refusal
 in_record mark p around blank = Ok (within mark p around)
 in_record mark p around (marking next) = Ok (within next p around)
-in_record mark p around (member (Value scalar) behind) = with_scalar mark p scalar behind >>= λ next. Ok (within mark next around)
+in_record mark p around (member (Value scalar) behind) = do
+  next ← with_member mark p behind (own_alignment scalar) (ScalarDescr scalar)
+  Ok (within mark next around)
 in_record mark p around (member (Pad n) behind) = with_pad p n behind >>= λ next. Ok (within mark next around)
 in_record mark p around (member Opened behind) = opened p.levels p.leaves >>= λ inner. Ok (within mark inner ((mark, p) ∷ around))
 in_record mark p around (closing_brace behind) = closed_body mark p >>= λ body. closed_in around body behind
@@ -131,8 +121,7 @@ behind_member now (closing_brace behind) = Err BadDescriptor
 abbrev pub step : Reading → Piece → Result Reading Refusal
 step (begun mark) piece = part_of mark piece >>= at_begin mark
 step (within mark p around) piece = part_of mark piece >>= in_record mark p around
-step (complete descr) piece = part_of Aligned piece >>= behind_member (complete descr)
-step beyond piece = part_of Aligned piece >>= behind_member beyond
+step now piece = part_of Aligned piece >>= behind_member now
 
 -- the result if the text ends here
 abbrev pub result : Reading → Result Descr Refusal

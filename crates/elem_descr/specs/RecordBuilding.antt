@@ -42,7 +42,7 @@ built size alignment leaves levels fields = record { size = size; alignment = al
 
 -- a record before its first field
 abbrev pub empty : ℕ → ℕ → Partial
-empty levels leaves = built 0 1 leaves levels []
+empty levels leaves = record { size = 0; alignment = 1; leaves = leaves; levels = levels; fields = [] }
 
 abbrev pub is_taken : List Field → List ℕ → Bool
 is_taken fields name = list_any (λ field. bytes_eq field.name name) fields
@@ -51,11 +51,10 @@ is_taken fields name = list_any (λ field. bytes_eq field.name name) fields
 abbrev pub with_field : Partial → List ℕ → ℕ → Descr → Partial
 with_field p name alignment descr =
     let at = next_multiple_of p.size alignment in
-    record {
+    record p {
       size = at + item_size descr;
       alignment = max p.alignment alignment;
       leaves = p.leaves + length (leaves_of descr);
-      levels = p.levels;
       fields = p.fields ++ record { name = name; at = at; descr = descr } ∷ [];
     }
 

@@ -1,5 +1,5 @@
 -- A scalar that is written as a type string is read back as the same scalar.
-use Rattle.std.specs.Prelude.{◌≡◌, ◌≤◌, ℕ, [], ◌∷◌, Ok, decimal}
+use Rattle.std.specs.Prelude.{◌≡◌, ◌≤◌, [], ◌∷◌, Ok, decimal}
 use Rattle.std.proofs.Common.{true, false, refl, arith, lit<}
 use Rattle.elem_descr.specs.Words.{le-leb, ne_eqb, decimal_digit}
 use Rattle.elem_descr.specs.declared.scalar.Order.TheVariants.{Little, Big}
@@ -7,7 +7,7 @@ use Rattle.elem_descr.specs.declared.scalar.Width.TheVariants.{Two, Four, Eight}
 use Rattle.elem_descr.specs.declared.scalar.Scalar.{Scalar}
 use Rattle.elem_descr.specs.declared.scalar.Scalar.TheVariants.{Bool as BoolScalar, Byte, Int, Bytes}
 use Rattle.elem_descr.specs.Encoding.{size}
-use Rattle.elem_descr.specs.TypeStrings.{typestr, spelling, of_length, byte_string}
+use Rattle.elem_descr.specs.TypeStrings.{typestr, spelling}
 use Rattle.elem_descr.specs.DigitLaws.{digits-decimal, value_of-decimal}
 
 pub one : decimal 1 ≡ 49 ∷ []

@@ -1,7 +1,7 @@
 -- Laws of numbers in steps.
-use Rattle.std.specs.Prelude.{◌≡◌, ◌≢◌, ◌↔◌, ℕ, ◌+◌, ◌*◌, ◌/◌, ◌%◌, ◌<◌, ◌≤◌, Bool, ℤ, pos, negsuc, neg_ℤ, unsigned_abs, ◌+ℤ◌, ◌-ℤ◌, ◌*ℤ◌, ◌<ℤ◌, ◌≤ℤ◌, ◌∷◌, ◌++◌, map, length}
+use Rattle.std.specs.Prelude.{◌≡◌, ◌≢◌, ◌↔◌, ℕ, ◌+◌, ◌*◌, ◌/◌, ◌%◌, ◌<◌, ◌≤◌, Bool, ℤ, pos, negsuc, neg_ℤ, unsigned_abs, ◌+ℤ◌, ◌*ℤ◌, ◌<ℤ◌, ◌≤ℤ◌, ◌∷◌, ◌++◌, map, length}
 use Rattle.std.proofs.Common.{zero, suc, min, true, false, int_lt, add-one, filter, get_or, inl, inr, refl, sym, ap, ◌∙◌, arith, add-mul, mul_comm, mul-le-mul_left}
-use Rattle.elem_descr.specs.Words.{int_max, div_ceil, range_with_len, mul-le-mul_right, cases_lt, true_from_ne_false, false_from_ne_true, div_ceil_times, ints, clamps, by_lt_z, length-map, length-range_with_len, get_or-map-range_with_len, *ℤ-zero, +ℤ_idr, negsuc-*ℤ-pos}
+use Rattle.elem_descr.specs.Words.{div_ceil, range_with_len, mul-le-mul_right, cases_lt, true_from_ne_false, false_from_ne_true, div_ceil_times, ints, clamps, by_lt_z, length-map, length-range_with_len, get_or-map-range_with_len, *ℤ-zero, +ℤ_idr, negsuc-*ℤ-pos}
 use Rattle.elem_descr.specs.Steps.{is_before, numbers_from, stepped, IsGap}
 use Rattle.elem_descr.specs.StepCounts.{CountsSteps}
 

@@ -1,5 +1,5 @@
 -- Type strings of NumPy's array interface: a byte order, a letter for the kind, and the number of bytes of an item.
-use Rattle.std.specs.Prelude.{ℕ, ◌+◌, ◌-◌, ◌*◌, Bool, List, [], ◌∷◌, ◌++◌, codes, decimal, find, nat_eq, nat_le, if◌then◌else◌, Option, Some, None, Result, Ok, Err}
+use Rattle.std.specs.Prelude.{ℕ, ◌+◌, ◌-◌, ◌*◌, Bool, List, [], ◌∷◌, ◌++◌, codes, decimal, find, nat_eq, nat_le, if◌then◌else◌, Option, unwrap_or, Result, Ok, Err}
 use Rattle.std.proofs.Common.{true, false, fold}
 use Rattle.elem_descr.specs.Words.{is_ascii_digit, list_all, list_any, option_map, bytes_eq}
 use Rattle.elem_descr.specs.declared.refusal.Refusal.{Refusal}
@@ -19,26 +19,41 @@ abbrev pub marked : List ℕ → Order × List ℕ
 marked [] = (Little, [])
 marked (b ∷ rest) = if is_one_of (codes ">") b then (Big, rest) else if is_one_of (codes "<|=") b then (Little, rest) else (Little, b ∷ rest)
 
--- the spellings of bools and integers
-abbrev pub numbers : Order → List (List ℕ × Scalar)
-numbers order =
-    (codes "b1", BoolScalar)
-    ∷ ((codes "i1", Byte true)
-    ∷ ((codes "u1", Byte false)
-    ∷ ((codes "i2", Int true Two order)
-    ∷ ((codes "i4", Int true Four order)
-    ∷ ((codes "i8", Int true Eight order)
-    ∷ ((codes "u2", Int false Two order)
-    ∷ ((codes "u4", Int false Four order)
-    ∷ ((codes "u8", Int false Eight order) ∷ []))))))))
+-- the mark of a scalar: `>` for big-endian, `<` for little-endian, and `|` if it has no byte order
+abbrev pub mark : Scalar → List ℕ
+mark (Int signed width Little) = codes "<"
+mark (Int signed width Big) = codes ">"
+mark scalar = codes "|"
+
+abbrev pub integer_letter : Bool → List ℕ
+integer_letter true = codes "i"
+integer_letter false = codes "u"
+
+abbrev pub letter_of : Scalar → List ℕ
+letter_of BoolScalar = codes "b"
+letter_of (Byte signed) = integer_letter signed
+letter_of (Int signed width order) = integer_letter signed
+letter_of (Bytes n) = codes "S"
+
+-- the type string of a scalar
+abbrev pub spelling : Scalar → List ℕ
+spelling scalar = mark scalar ++ letter_of scalar ++ decimal (size scalar)
+
+-- the integers of this byte order, signed or unsigned
+abbrev pub integers : Bool → Order → List Scalar
+integers signed order = Byte signed ∷ (Int signed Two order ∷ (Int signed Four order ∷ (Int signed Eight order ∷ [])))
+
+-- the bools and the integers of this byte order
+abbrev pub numbers : Order → List Scalar
+numbers order = BoolScalar ∷ (integers true order ++ integers false order)
 
 -- the number that decimal digits spell
 abbrev pub value_of : List ℕ → ℕ
 value_of digits = fold (λ n d. n * 10 + (d - 48)) 0 digits
 
--- the bool or the integer with this spelling, if there is one
+-- the bool or the integer that a letter and the digit of its size spell, if there is one
 abbrev pub number_spelled : Order → List ℕ → Option Scalar
-number_spelled order kind = option_map (λ entry. entry.1) (find (λ entry. bytes_eq entry.0 kind) (numbers order))
+number_spelled order kind = find (λ scalar. bytes_eq (letter_of scalar ++ ((48 + size scalar) ∷ [])) kind) (numbers order)
 
 -- a byte string of `n` bytes, refused if `n` is 0 or too large
 abbrev pub of_length : ℕ → Result Scalar Refusal
@@ -56,32 +71,6 @@ by_letter (letter ∷ rest) =
     else if is_one_of (codes "fcmMOUV") letter then Err DescriptorLeftOut
     else Err BadDescriptor
 
-abbrev pub or_else : Option Scalar → Result Scalar Refusal → Result Scalar Refusal
-or_else None other = other
-or_else (Some scalar) other = Ok scalar
-
 -- the scalar that a type string means, or the refusal for the error in it
 abbrev pub typestr : List ℕ → Result Scalar Refusal
-typestr text = let m = marked text in or_else (number_spelled m.0 m.1) (by_letter m.1)
-
--- the mark of a scalar: `>` for big-endian, `<` for little-endian, and `|` if it has no byte order
-abbrev pub mark : Scalar → List ℕ
-mark BoolScalar = codes "|"
-mark (Byte signed) = codes "|"
-mark (Int signed width Little) = codes "<"
-mark (Int signed width Big) = codes ">"
-mark (Bytes n) = codes "|"
-
-abbrev pub integer_letter : Bool → List ℕ
-integer_letter true = codes "i"
-integer_letter false = codes "u"
-
-abbrev pub letter_of : Scalar → List ℕ
-letter_of BoolScalar = codes "b"
-letter_of (Byte signed) = integer_letter signed
-letter_of (Int signed width order) = integer_letter signed
-letter_of (Bytes n) = codes "S"
-
--- the type string of a scalar
-abbrev pub spelling : Scalar → List ℕ
-spelling scalar = mark scalar ++ letter_of scalar ++ decimal (size scalar)
+typestr text = let m = marked text in unwrap_or (option_map Ok (number_spelled m.0 m.1)) (by_letter m.1)

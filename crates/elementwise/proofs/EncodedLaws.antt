@@ -20,7 +20,7 @@ behind-first : (leaf : Leaf) (leaves : List Leaf) (at width : ℕ) → leaf.at +
 behind-first leaf leaves at width after gap zero inside = inr after
 behind-first leaf leaves at width after gap (suc k) inside = gap k (omega (arith, inside))
 
-cut : (bytes : List ℕ) (o a b : ℕ) → item_at o (a + b) bytes ≡ item_at o a bytes ++ item_at (o + a) b bytes
+pub cut : (bytes : List ℕ) (o a b : ℕ) → item_at o (a + b) bytes ≡ item_at o a bytes ++ item_at (o + a) b bytes
 cut bytes o a b = take-add a b (drop o bytes) ∙ ap (λ rest. take a (drop o bytes) ++ take b rest) (drop-drop a o bytes)
 
 -- from the byte `p` of an item on, these leaves are written in order, over zeros; the item begins at the offset `o`

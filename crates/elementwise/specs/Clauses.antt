@@ -5,7 +5,7 @@ pub use Rattle.elementwise.specs.Comparisons.{compared, says}
 pub use Rattle.elementwise.specs.Operations.{binary, exact, floor_quotient, serves_bools, shifted_left, shifted_right}
 pub use Rattle.elementwise.specs.Promotion.{common_type, compared_type, integer_type, literal_type, mixed_type, promote, promote_one, rank_of_kind, same_kind}
 pub use Rattle.elementwise.specs.Results.{GivesArray, binary_item, binary_result, bytes_compared_result, compared_item, compared_result, integer_compared_result, items_stretched, pairwise, scalar_of, stretched_items, unary_item, unary_result}
-pub use Rattle.elementwise.specs.Words.{Add, And, Answers, AreAlike, BoolScalar, Bytes, C, Eight, Int, IsNumber, Little, Multiply, NoSuchCast, Or, OutOfMemory, Scalar, ScalarDescr, ShiftLeft, ShiftRight, Subtract, TooLarge, Xor, big_number, can_stretch, count, decode, encode_item, flat_map, integer, is_bool, is_signed, is_text, item_at, item_from, item_size, items, leaf_at, leaves_of, list_all, listed, little, low_bits, max_bytes, number, offsets_in, owned_items, place, size, text, without_nuls, wrap}
+pub use Rattle.elementwise.specs.Words.{Add, And, Answers, AreAlike, BoolScalar, Bytes, C, EachWithin, Eight, Int, IsNumber, Little, Multiply, NoSuchCast, Or, OutOfMemory, Scalar, ScalarDescr, ShiftLeft, ShiftRight, Subtract, TooLarge, Xor, big_number, can_stretch, count, decode, encode_item, flat_map, integer, is_bool, is_signed, is_text, item_at, item_from, item_size, items, leaf_at, leaves_of, list_all, listed, little, low_bits, max_bytes, max_items, number, offsets_in, owned_items, place, run_offsets, size, text, without_nuls, wrap}
 unfoldable pub use Rattle.elementwise.specs.Words.{offsets}
 pub use Rattle.elementwise.specs.inside.Combined.{AreCastable, AreCompared, AreComparedWith, IsCombined}
 pub use Rattle.elementwise.specs.inside.FieldCasts.{can_cast_field}

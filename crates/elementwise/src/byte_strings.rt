@@ -5,7 +5,6 @@ ghost use Rattle.elementwise.specs.Clauses.{ScalarDescr, Bytes, big_number, item
 use crate::layouts::without_repeats;
 use arrays::Items;
 use broadcasting::repeats;
-use elem_descr::BytesLen;
 use machine_numbers::{HighFirst, LowFirst, Ordered};
 use shape_strides::{Layout, Shape, Walk};
 use std::alloc::{AllocError, Global};
@@ -39,28 +38,26 @@ fn longest(block: &[u8], layout: &Layout, width: usize) -> usize
     most
 }
 
-/// The length to which the byte strings of an array can be cut: that of the longest one, if the
-/// array is stretched to a shape with more items and compared with byte strings of another length;
-/// otherwise that of its items. Items that repeat are looked at once.
+/// The length to which the byte strings of an array can be cut: that of the longest one without its
+/// trailing NULs, if the array is shown in a shape with more items; otherwise that of its items.
+/// Items that repeat are looked at once.
 pub(crate) fn trimmed_in(
     alloc: Global,
     items: Items<'_>,
-    width: BytesLen,
-    other_width: BytesLen,
+    width: usize,
     shape: &Shape,
-) -> Result<BytesLen, AllocError>
-    requires { items.descr.now ≡ ScalarDescr (Bytes width) }
-    ensures { IfOk result (CanCut items.entry width) }
+) -> Result<usize, AllocError>
+    requires descr { items.descr.now ≡ ScalarDescr (Bytes width) }
+    requires some { 1 ≤ width }
+    ensures cut { IfOk result (CanCut items.entry width) }
+    ensures some { IfOk result (λ n. 1 ≤ n) }
 {
     let layout = items.layout;
-    let len = width.get();
-    let shown_again = repeats(layout) || layout.shape.items() < shape.items();
-    if !shown_again || len == other_width.get() {
+    if !repeats(layout) && layout.shape.items() >= shape.items() {
         return Ok(width);
     }
     let small = without_repeats(alloc, layout, layout, &layout.shape)?;
-    let most = longest(items.block.bytes(), &small.first, len);
-    Ok(BytesLen::try_new(most).unwrap())
+    Ok(longest(items.block.bytes(), &small.first, width))
 }
 
 /// How many whole words, in bytes, two byte strings have in common at the front.

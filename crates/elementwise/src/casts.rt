@@ -1,6 +1,6 @@
 //! Casts: the items of an array as items of another element type.
-ghost use Rattle.std.specs.Prelude.{IfErr, IfOk, IsTrue, if◌then◌else◌, map, nat_le, true, ◌*◌, ◌+◌, ◌≡◌, ◌≤◌};
-ghost use Rattle.elementwise.specs.Clauses.{ScalarDescr, can_cast, cast_item, C, IsNumber, NoSuchCast, OutOfMemory, TooLarge, count, encode_item, held_descr, held_items, held_shape, item_from, item_size, items, max_bytes, offsets, offsets_in, owned_items, place, size, HasSource, IsCut, cast_items, run_part, source, AreCast, AreItems, IsCast, flat_map};
+ghost use Rattle.std.specs.Prelude.{IfErr, IfOk, IsTrue, if◌then◌else◌, length, map, nat_le, true, ◌*◌, ◌+◌, ◌≡◌, ◌≤◌};
+ghost use Rattle.elementwise.specs.Clauses.{Bytes, EachWithin, ScalarDescr, can_cast, cast_item, C, IsNumber, NoSuchCast, OutOfMemory, TooLarge, count, encode_item, held_descr, held_items, held_shape, item_from, item_size, items, max_bytes, max_items, offsets, offsets_in, owned_items, place, run_offsets, size, HasSource, IsCut, cast_items, run_part, source, AreCast, AreItems, IsCast, flat_map};
 
 use crate::castable::{can_cast, keeps_items, leaf_of};
 use crate::held::Held;
@@ -10,7 +10,7 @@ use crate::operations::Work;
 use crate::pairing::Pairing;
 use crate::row_pairs::Operands;
 use crate::tuning::{BAND, FEWEST_IN_BAND};
-use arrays::{Items, Owned, gather};
+use arrays::{Items, Owned, copy_run, gather};
 use elem_descr::{Descr, Leaf, MemoryOrder, Refusal, Scalar};
 use machine_numbers::{Side, is_text, place};
 use raw_block::{BlockBuilder, RawBlock};
@@ -111,9 +111,9 @@ fn cast_band(
     Ok(rows)
 }
 
-/// A block with exactly the items of a run, cast. They are cast in bands that stay in the cache, so
-/// that each line of the block is written once.
-fn cast_run(
+/// A block with exactly the items of a run, cast in bands that stay in the cache, so that each line
+/// of the block is written once.
+fn cast_bands(
     alloc: Global,
     from: Side<'_>,
     descr: &Descr,
@@ -138,6 +138,65 @@ fn cast_run(
     Ok(cast.finish())
 }
 
+/// A block with exactly the byte strings of a run, each padded with NULs to a length.
+fn pad(
+    alloc: Global,
+    block: &RawBlock,
+    run: Run,
+    width: usize,
+    len: usize,
+) -> Result<RawBlock, AllocError>
+    requires within { EachWithin (length block.now) run.offset run.step width run.count }
+    requires some { 1 ≤ len }
+    requires longer { width ≤ len }
+    requires small { len ≤ max_bytes }
+    requires few { run.count * len ≤ max_bytes }
+    ensures { IfOk result
+        (AreItems (ScalarDescr (Bytes len))
+        (cast_items (ScalarDescr (Bytes width)) (ScalarDescr (Bytes len)) block.now
+        (run_offsets run))) }
+{
+    let mut padded = RawBlock::try_zeroed(alloc, run.count * len)?;
+    let to = Run {
+        offset: 0,
+        count: run.count,
+        step: len as isize,
+    };
+    copy_run(&mut padded, to, block, run, width);
+    Ok(padded)
+}
+
+/// A block with exactly the items of a run, cast. Byte strings that get longer are copied over
+/// NULs.
+fn cast_run(
+    alloc: Global,
+    block: &RawBlock,
+    run: Run,
+    descr: &Descr,
+    to: &Descr,
+) -> Result<RawBlock, AllocError>
+    requires within { EachWithin
+        (length block.now) run.offset run.step (item_size descr.now) run.count }
+    requires count { run.count ≤ max_items }
+    requires can { can_cast descr.now to.now ≡ true }
+    requires few { run.count * item_size to.now ≤ max_bytes }
+    ensures { IfOk result
+        (AreItems to.now (cast_items descr.now to.now block.now (run_offsets run))) }
+{
+    match (descr, to) {
+        (Descr::Scalar(Scalar::Bytes(width)), Descr::Scalar(Scalar::Bytes(len)))
+            if width.get() <= len.get() => pad(alloc, block, run, width.get(), len.get()),
+        _ => {
+            let items = Side {
+                bytes: block.bytes(),
+                run,
+                width: descr.size(),
+            };
+            cast_bands(alloc, items, descr, to)
+        }
+    }
+}
+
 /// Whether a cast keeps the first bytes of each item: that of byte strings which do not get longer.
 fn is_cut(from: &Descr, to: &Descr) -> bool
     ensures { IsTrue result → IsCut from.now to.now }
@@ -159,31 +218,21 @@ fn cast_block(alloc: Global, from: Items<'_>, to: &Descr) -> Result<RawBlock, Al
         (cast_items from.entry.descr.now to.now from.entry.block.now
         (offsets from.entry.layout.now))) }
 {
-    let descr = from.descr;
-    let width = descr.size();
-    let count = from.layout.shape.items();
-    if is_cut(descr, to) {
+    if is_cut(from.descr, to) {
         return gather(alloc, from.block, from.layout, to.size());
     }
+    let count = from.layout.shape.items();
     if let Some(run) = from.layout.as_one_run() {
-        let items = Side {
-            bytes: from.block.bytes(),
-            run,
-            width,
-        };
-        return cast_run(alloc, items, descr, to);
+        return cast_run(alloc, from.block, run, from.descr, to);
     }
+    let width = from.descr.size();
     let packed = gather(alloc, from.block, from.layout, width)?;
-    let items = Side {
-        bytes: packed.bytes(),
-        run: Run {
-            offset: 0,
-            count,
-            step: width as isize,
-        },
-        width,
+    let run = Run {
+        offset: 0,
+        count,
+        step: width as isize,
     };
-    cast_run(alloc, items, descr, to)
+    cast_run(alloc, &packed, run, from.descr, to)
 }
 
 /// Items, cast to an element type for which the cast exists.

@@ -1,6 +1,6 @@
 //! Comparisons of all items of arrays.
 ghost use Rattle.std.specs.Prelude.{IfOk, IsTrue, length, ◌≡◌, ◌≤◌};
-ghost use Rattle.elementwise.specs.Clauses.{GivesArray, BoolScalar, ScalarDescr, can_stretch, compared_item, compared_result, pairwise, Bytes, IsNumber, decode, max_bytes, size, AreCompared, AreComparedWith, AreComparable, IsComparing, IsMade, items_stretched, stretched_items};
+ghost use Rattle.elementwise.specs.Clauses.{GivesArray, BoolScalar, CanCut, ScalarDescr, can_stretch, compared_item, compared_result, pairwise, Bytes, IsNumber, decode, max_bytes, size, AreCompared, AreComparedWith, AreComparable, IsComparing, IsMade, items_stretched, stretched_items};
 
 use crate::apply::make_cast;
 use crate::bits::note_slice;
@@ -12,6 +12,7 @@ use crate::operations::Work;
 use crate::pairing::Pairing;
 use crate::promotion::{common_type, compared_type, scalar_of};
 use crate::row_pairs::Operands;
+use crate::tuning::TWO_WORDS;
 use arrays::{Items, Owned};
 use broadcasting::{common, repeats, stretched_to};
 use elem_descr::{BytesLen, Comparison, Descr, MemoryOrder, Refusal, Scalar};
@@ -47,6 +48,31 @@ fn number_pairing(
     }
 }
 
+/// The lengths to which the byte strings of two arrays can be cut without a change of their order.
+/// They are equal if they can be, since byte strings of one length are compared by words.
+fn cut_lengths(
+    alloc: Global,
+    width: BytesLen,
+    other_width: BytesLen,
+    both: Broadcast<'_>,
+) -> Result<(BytesLen, BytesLen), AllocError>
+    requires left { both.left.descr.now ≡ ScalarDescr (Bytes width) }
+    requires right { both.right.descr.now ≡ ScalarDescr (Bytes other_width) }
+    ensures left { IfOk result (λ cut. CanCut both.entry.left width cut.0) }
+    ensures right { IfOk result (λ cut. CanCut both.entry.right other_width cut.1) }
+{
+    let (len, other_len) = (width.get(), other_width.get());
+    if len == other_len && len <= TWO_WORDS {
+        return Ok((width, other_width));
+    }
+    let longest = trimmed_in(alloc, both.left, len, both.shape)?;
+    let other_longest = trimmed_in(alloc, both.right, other_len, both.shape)?;
+    let most = longest.max(other_longest);
+    let cut = BytesLen::try_new(most.min(len)).unwrap();
+    let other_cut = BytesLen::try_new(most.min(other_len)).unwrap();
+    Ok((cut, other_cut))
+}
+
 /// A comparison of byte strings. Trailing NULs of items that repeat are looked at once.
 fn compare_texts(
     alloc: Global,
@@ -61,8 +87,7 @@ fn compare_texts(
 {
     let Broadcast { left, right, shape } = both;
     let _items = shape.items();
-    let cut = trimmed_in(alloc, left, width, other_width, shape)?;
-    let other_cut = trimmed_in(alloc, right, other_width, width, shape)?;
+    let (cut, other_cut) = cut_lengths(alloc, width, other_width, both)?;
     let pairing = Pairing::Texts {
         comparison,
         width: cut,

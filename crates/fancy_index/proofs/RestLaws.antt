@@ -1,6 +1,6 @@
 -- What is picked if all points are 0.
 use Rattle.std.proofs.Common.{◌≡◌, Result, Ok, Err, ℕ, ◌<◌, ◌≤◌, nat_le, true, pos, List, [], ◌∷◌, ◌++◌, map, length, get_or, refl, sym, ap, subst, ◌∙◌, arith}
-use Rattle.fancy_index.proofs.Words.{IfOk, IfErr, le-leb, get_or-map, Refusal, OutOfMemory, Layout, max_axes, indexes, rank, IsIndex, address, offsets, length-indexes, rank-lt, get_or-indexes, pos-offset, AxisPick, axis_of, picked_shape, picked_index, shape_picked, picked_view, pick_shown, View, IsViewOf, GivesView, AtAxis, IndexPart, AxisPart, PointsPart, BetweenPart, other_axes, shown_part, rest_picks, IsRest}
+use Rattle.fancy_index.proofs.Words.{IfOk, IfErr, le-leb, get_or-map, Refusal, OutOfMemory, Layout, max_axes, indexes, rank, IsIndex, address, offsets, length-indexes, rank-lt, get_or-indexes, pos-offset, AxisPick, axis_of, picked_shape, picked_index, picked_view, pick_shown, View, IsViewOf, GivesView, AtAxis, IndexPart, AxisPart, PointsPart, BetweenPart, other_axes, shown_part, rest_picks, IsRest}
 use Rattle.fancy_index.proofs.CutLaws.{only-memory}
 
 -- ---- the shape
@@ -19,7 +19,7 @@ rest-shape (BetweenPart ∷ parts) = rest-shape parts
 
 view-ok : (parts : List IndexPart) → length (other_axes (map shown_part parts)) ≤ max_axes →
     picked_view (map pick_shown (rest_picks parts)) ≡ Ok (record { shape = picked_shape (map pick_shown (rest_picks parts)); leads = picked_index (map pick_shown (rest_picks parts)) })
-unfolding picked_view shape_picked
+unfolding picked_view
 view-ok parts few =
     let test : nat_le (length (picked_shape (map pick_shown (rest_picks parts)))) max_axes ≡ true = le-leb (length (picked_shape (map pick_shown (rest_picks parts)))) max_axes (omega (arith, few, ap length (rest-shape parts))) in
     rw test refl

@@ -1,12 +1,14 @@
 -- Names from std and from the crates below, which this crate's definitions, contracts and proofs use.
 pub use Rattle.arrays.specs.Assignments.{assigned, items_at}
 pub use Rattle.arrays.specs.Blocks.{offsets_in}
+pub use Rattle.arrays.specs.ItemLists.{items, owned_items}
 pub use Rattle.arrays.specs.Joined.{joined_at}
 pub use Rattle.arrays.specs.JoinedLaws.{joined-items, length-joined_at}
 pub use Rattle.arrays.specs.Packed.{row_offsets}
 pub use Rattle.arrays.specs.PackedLaws.{row-multiples}
 pub use Rattle.arrays.specs.RunLaws.{All-back, All-front, BeginsWithin, assigned-append, lie-within, nth-offset, place-at, run_offsets-more}
 pub use Rattle.arrays.specs.declared.items.Items.{Items}
+pub use Rattle.arrays.specs.declared.owned.Owned.{Owned}
 pub use Rattle.broadcasting.specs.BroadcastLaws.{IsIndex-broadcast, broadcast_index-itself}
 pub use Rattle.broadcasting.specs.Broadcasts.{all_stretch, broadcast_index, can_stretch, common_with, stretches}
 unfoldable pub use Rattle.broadcasting.specs.Broadcasts.{common_of_two}
@@ -54,7 +56,7 @@ pub use Rattle.std.specs.Ordering.{int_eq}
 pub use Rattle.std.specs.Simd.Lanes.{digits_l}
 pub use Rattle.std.specs.Str.{bytes_eq}
 pub use Rattle.view_ops.specs.Basics.{Along, At, New, Pick, Placed, axis_of, has_step, is_on_axis, picked_index, picked_shape, picks_of, whole}
-unfoldable pub use Rattle.view_ops.specs.Basics.{picked_view, shape_picked}
+unfoldable pub use Rattle.view_ops.specs.Basics.{picked_view}
 pub use Rattle.view_ops.specs.PickLaws.{first_number, length-run, number_at}
 pub use Rattle.view_ops.specs.Picks.{ArePicks, first_of, pick_shown}
 pub use Rattle.view_ops.specs.Shows.{ShowsThrough}

@@ -5,9 +5,8 @@ use Rattle.literal_items.specs.Words.{list_all, Refusal, LiteralOutOfRange, NoSu
 -- One value
 
 abbrev pub is_text_literal : ScalarLiteral → Bool
-is_text_literal (Integer value) = false
-is_text_literal (Boolean value) = false
 is_text_literal (Bytes bytes) = true
+is_text_literal _ = false
 
 -- the number that a literal means: True is 1 and False is 0
 abbrev pub literal_number : ScalarLiteral → ℤ
@@ -17,24 +16,19 @@ literal_number (Boolean false) = pos 0
 literal_number (Bytes bytes) = pos 0
 
 abbrev pub literal_bytes : ScalarLiteral → List ℕ
-literal_bytes (Integer value) = []
-literal_bytes (Boolean value) = []
 literal_bytes (Bytes bytes) = bytes
+literal_bytes _ = []
 
 -- whether a literal can be a value of a scalar: bytes for a byte string, and a number or a bool for the others
 abbrev pub is_castable : Scalar → ScalarLiteral → Bool
 is_castable (BytesScalar n) literal = is_text_literal literal
 is_castable _ literal = not (is_text_literal literal)
 
--- whether a number is in range for a scalar. Every number is in range for a bool.
-abbrev pub takes_number : Scalar → ℤ → Bool
-takes_number BoolScalar value = true
-takes_number scalar value = is_value scalar value
-
--- whether a literal is in range for a scalar. Every literal is in range for a byte string.
+-- whether a literal is in range for a scalar. Every literal is in range for a bool or a byte string.
 abbrev pub is_in_range : Scalar → ScalarLiteral → Bool
+is_in_range BoolScalar literal = true
 is_in_range (BytesScalar n) literal = true
-is_in_range scalar literal = takes_number scalar (literal_number literal)
+is_in_range scalar literal = is_value scalar (literal_number literal)
 
 -- The value that a literal gives to a scalar. A bool is whether the number is not 0. Bytes are cut to the length, and
 -- then lose the NULs at their end.

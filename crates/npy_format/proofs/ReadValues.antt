@@ -1,8 +1,9 @@
 -- Values that are written, and read back from their tokens.
-use Rattle.std.proofs.Common.{◌≡◌, ℕ, zero, suc, ◌+◌, ◌-◌, ◌*◌, ◌^◌, ◌<◌, ◌≤◌, ◌&&◌, nat_le, Bool, true, false, List, [], ◌∷◌, ◌++◌, length, None, Ok, refl, sym, ap, subst, arith, codes, decimal, append_assoc}
+use Rattle.std.proofs.Common.{◌≡◌, ℕ, zero, suc, ◌+◌, ◌-◌, ◌*◌, ◌^◌, ◌<◌, ◌≤◌, ◌&&◌, nat_le, Bool, true, false, List, [], ◌∷◌, ◌++◌, length, None, Ok, ◌∙◌, refl, sym, ap, subst, arith, codes, decimal, append_assoc}
 use Rattle.npy_format.proofs.Words.{list_all, is_ascii_digit, nat_tests, and_parts, Little, Scalar, Byte, Int, size, width_size, Fields, no_more, scalar_field, record_field, is_field_name_byte, is_legal_name, InOrder, AreNamedWithin, names_of, depth, InOrder-within, some_depth, spelling, ◌>>=◌, digits-decimal, Token, is_plain_byte, Round, Square, Text, Literal, Plain, Row, all_listed_values, symbol_token_at, entries_in, tuple_in, list_in, literal_in, quoted, entry, gap, separated, in_brackets, entries}
 use Rattle.npy_format.specs.Tokens as token
 use Rattle.npy_format.proofs.ReadTokens.{Scans, scan_token, scan_space, scan_quoted}
+use Rattle.npy_format.proofs.WrittenEntries.{in_brackets-separated}
 
 -- the tokens of a text that are read as a value, followed by the tokens `toks`
 pub record IsRead (depth : ℕ) (text : List ℕ) (value : Literal) (toks : List Token) : Type 0 where
@@ -111,7 +112,7 @@ unfolding literal_in list_in
 list_value depth texts values are rest toks more =
     let all = all_read depth texts values rest toks are more in
     let tail = separated true texts ++ (93 ∷ rest) in
-    let joined : in_brackets texts ++ rest ≡ 91 ∷ tail = ap (λ (l : List ℕ). 91 ∷ l) (append_assoc (separated true texts) (codes "]") rest) in
+    let joined : in_brackets texts ++ rest ≡ 91 ∷ tail = ap (λ (l : List ℕ). l ++ rest) (in_brackets-separated texts) ∙ ap (λ (l : List ℕ). 91 ∷ l) (append_assoc (separated true texts) (codes "]") rest) in
     record {
       tokens = token.Symbol 91 ∷ all.tokens;
       scans = subst (λ (l : List ℕ). Scans l (token.Symbol 91 ∷ all.tokens)) (sym joined) (scan_token 91 tail (token.Symbol 91) tail all.tokens refl refl (omega arith) all.scans);

@@ -1,6 +1,7 @@
 -- The maximum length of the text of a header.
-use Rattle.std.proofs.Common.{◌≡◌, ℕ, zero, suc, ◌+◌, ◌-◌, ◌*◌, ◌≤◌, ◌&&◌, Bool, true, false, All, List, [], ◌∷◌, ◌++◌, length, codes, decimal, arith, length-append, mul-one, suc-mul, nat_le}
+use Rattle.std.proofs.Common.{◌≡◌, ℕ, zero, suc, ◌+◌, ◌-◌, ◌*◌, ◌≤◌, ◌&&◌, Bool, true, false, All, List, [], ◌∷◌, ◌++◌, length, codes, decimal, ap, arith, length-append, mul-one, suc-mul, nat_le}
 use Rattle.npy_format.proofs.Words.{mul-le-mul_left, list_all, flat_map, leb-true, and_parts, length-decimal-le, All-head, All-tail, mul-add, Little, Scalar, Byte, Int, Descr, size, Fields, no_more, scalar_field, record_field, total, is_field_name_byte, is_legal_name, InOrder, AreNamedWithin, names_of, depth, leaf_count, InOrder-within, some_depth, some_leaves, spelling, max_items, IsShape, shape_text, ScalarDescr, RecordDescr, IsSound, quoted, opened_entry, entry, gap, separated, in_brackets, entries, written_descr, written_truth, written_text}
+use Rattle.npy_format.proofs.WrittenEntries.{in_brackets-separated}
 
 short_decimal : (n : ℕ) → n ≤ 65536 → length (decimal n) ≤ 5
 short_decimal n small = length-decimal-le 5 n (omega arith) (omega (arith, small)) (omega (arith, small))
@@ -42,7 +43,7 @@ short_name name legal =
     leb-true (length name) 64 (and_parts (nat_le 1 (length name)) (nat_le (length name) 64) parts.0).1
 
 length-brackets : (texts : List (List ℕ)) → length (in_brackets texts) ≤ 2 + length (separated false texts)
-length-brackets texts = omega (arith, length-append (separated true texts) (codes "]"), first-shorter texts)
+length-brackets texts = omega (arith, ap length (in_brackets-separated texts), length-append (separated true texts) (codes "]"), first-shorter texts)
 
 -- at most 108 bytes a field
 short_entries : (fields : Fields) (from bytes : ℕ) → InOrder from fields bytes → bytes ≤ 65536 → list_all is_legal_name (names_of fields) ≡ true → AreNamedWithin fields → length (separated false (entries from fields bytes)) ≤ 108 * total fields + 17

@@ -1,6 +1,6 @@
 -- The entries of a list, written one after another.
 use Rattle.std.proofs.Common.{◌≡◌, ◌≤◌, ◌<◌, ◌+◌, ◌-◌, ℕ, zero, suc, Bool, true, false, ◌&&◌, List, [], ◌∷◌, ◌++◌, codes, decimal, length, get_or, drop, refl, sym, ap, ◌∙◌, append_assoc, nat_eq, arith}
-use Rattle.npy_format.proofs.Words.{at_drop_all, ne_eqb, Field, Descr, Fields, listed, before, item_size, rest_at, ScalarDescr, RecordDescr, quoted, opened_entry, entry, gap, entry_separator, separated, in_brackets, entries, written_descr}
+use Rattle.npy_format.proofs.Words.{at_drop_all, flat_map, ne_eqb, Field, Descr, Fields, listed, before, item_size, rest_at, ScalarDescr, RecordDescr, quoted, opened_entry, entry, gap, entry_separator, separated, in_brackets, entries, written_descr}
 
 entries_before : (from : ℕ) (name : List ℕ) (at : ℕ) (descr : Descr) (rest : Fields) (bytes : ℕ) → entries from (before name at descr rest) bytes ≡ gap (at - from) ++ (entry name (written_descr descr) ∷ entries (at + item_size descr) rest bytes)
 entries_before from name at (ScalarDescr scalar) rest bytes = refl
@@ -48,6 +48,15 @@ one_written from bytes fields field i first next text padded named spelled whole
 pub all_written : (from bytes : ℕ) (fields : List Field) (i : ℕ) → length fields ≤ i → entries from (listed (drop i fields)) bytes ≡ gap (bytes - from)
 all_written from bytes fields i l = at_drop_all (λ (fs : List Field). entries from (listed fs) bytes) fields i l
 
+separated_later : (texts : List (List ℕ)) → flat_map (λ later. codes ", " ++ later) texts ≡ separated false texts
+separated_later [] = refl
+separated_later (text ∷ texts) = ap (λ (l : List ℕ). 44 ∷ (32 ∷ (text ++ l))) (separated_later texts)
+
+-- entries in brackets, one after another
+pub in_brackets-separated : (texts : List (List ℕ)) → in_brackets texts ≡ codes "[" ++ (separated true texts ++ codes "]")
+in_brackets-separated [] = refl
+in_brackets-separated (text ∷ texts) = ap (λ (l : List ℕ). codes "[" ++ (text ++ l ++ codes "]")) (separated_later texts)
+
 closed : (before brackets texts : List ℕ) → ((before ++ brackets) ++ texts) ++ codes "]" ≡ before ++ (brackets ++ (texts ++ codes "]"))
 closed before brackets texts = simp append_assoc
 
@@ -57,6 +66,7 @@ pub list_written : (from bytes : ℕ) (fields : List Field) (i : ℕ) (first : B
 list_written from bytes fields i first before text all l last so_far =
     ap (λ (t : List ℕ). t ++ codes "]") (last ∙ ap (λ (es : List (List ℕ)). text ++ separated first es) (sym (all_written from bytes fields i l)) ∙ so_far)
     ∙ closed before (codes "[") (separated true (entries 0 (listed fields) bytes))
+    ∙ ap (λ (t : List ℕ). before ++ t) (sym (in_brackets-separated (entries 0 (listed fields) bytes)))
 
 joined : (a b c d e f g : List ℕ) → (((((([] ++ a) ++ b) ++ c) ++ d) ++ e) ++ f) ++ g ≡ a ++ (b ++ (c ++ (d ++ (e ++ (f ++ g)))))
 joined a b c d e f g = simp append_assoc

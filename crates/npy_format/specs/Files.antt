@@ -16,10 +16,6 @@ max_header = 2 ^ 20
 abbrev pub split_front : ℕ → List ℕ → Result (List ℕ × List ℕ) Refusal
 split_front n bytes = if nat_le n (length bytes) then Ok (take n bytes, drop n bytes) else Err Truncated
 
--- whether a file begins with the magic bytes; a file that is too short for them does not
-abbrev pub begins_well : List ℕ → Bool
-begins_well file = bytes_eq (take 6 file) magic
-
 -- the number of bytes that store the length of the header: two in version 1.0, four in 2.0
 abbrev pub length_bytes : List ℕ → Result ℕ Refusal
 length_bytes version =
@@ -36,7 +32,7 @@ text_behind field behind =
 -- the text of a file's header, and the bytes after it
 unfoldable pub split_header : List ℕ → Result (List ℕ × List ℕ) Refusal
 split_header file = do
-  _ ← check (begins_well file) BadMagic
+  _ ← check (bytes_eq (take 6 file) magic) BadMagic
   version ← split_front 2 (drop 6 file)
   width ← length_bytes version.0
   field ← split_front width version.1

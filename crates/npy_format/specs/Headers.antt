@@ -25,13 +25,10 @@ abbrev pub is_string : List ℕ → Literal → Bool
 is_string bytes (Plain (Text text)) = bytes_eq bytes text
 is_string bytes other = false
 
-abbrev pub is_key : List ℕ → Pair → Bool
-is_key key pair = is_string key pair.key
-
 -- the value of the first pair with this key
 abbrev pub value_under : List ℕ → List Pair → Result Literal Refusal
 value_under key [] = Err BadHeader
-value_under key (pair ∷ pairs) = if is_key key pair then Ok pair.value else value_under key pairs
+value_under key (pair ∷ pairs) = if is_string key pair.key then Ok pair.value else value_under key pairs
 
 abbrev pub truth_of : Literal → Result Bool Refusal
 truth_of (Plain (Truth truth)) = Ok truth

@@ -17,15 +17,11 @@ abbrev pub pad_in : Partial → Literal → Result Partial Refusal
 pad_in p (Plain (Text text)) = pad_kind (marked text).1 >>= widened p
 pad_in p other = Err DescriptorLeftOut
 
--- the scalar of a type string
-abbrev pub scalar_in : List ℕ → Result Descr Refusal
-scalar_in text = typestr text >>= λ scalar. Ok (ScalarDescr scalar)
-
--- the type of a field: a type string, or a list
-abbrev pub type_in : (List Literal → Result Structure Refusal) → Literal → Result Descr Refusal
-type_in record_in (Plain (Text text)) = scalar_in text
-type_in record_in (Row Square values) = record_in (value_literals values) >>= λ whole. Ok (RecordDescr whole)
-type_in record_in other = Err DescriptorLeftOut
+-- the element type that a value means: a type string, or a list; other values are refused in this way
+abbrev pub type_of : Refusal → (List Literal → Result Structure Refusal) → Literal → Result Descr Refusal
+type_of refusal record_in (Plain (Text text)) = typestr text >>= λ scalar. Ok (ScalarDescr scalar)
+type_of refusal record_in (Row Square values) = record_in (value_literals values) >>= λ whole. Ok (RecordDescr whole)
+type_of refusal record_in other = Err refusal
 
 -- reads the fields of a record, given the number of leaves of the whole type before it
 abbrev pub Reader : Type 0
@@ -35,7 +31,7 @@ Reader = ℕ → List Literal → Result Structure Refusal
 unfoldable pub field_in : Reader → Partial → List ℕ → Literal → Result Partial Refusal
 field_in within p name type = do
   _ ← check (is_legal_name name) DescriptorLeftOut
-  descr ← type_in (within p.leaves) type
+  descr ← type_of DescriptorLeftOut (within p.leaves) type
   _ ← checked_name p name
   added p name 1 descr
 
@@ -59,8 +55,6 @@ unfoldable pub record_in : ℕ → Reader
 record_in zero leaves entries = Err DescriptorLeftOut
 record_in (suc levels) leaves entries = fields_in (record_in levels) (empty levels leaves) entries >>= closed_record false
 
--- the element type that a value means
+-- the element type of an array
 abbrev pub descr_in : Literal → Result Descr Refusal
-descr_in (Plain (Text text)) = scalar_in text
-descr_in (Row Square values) = record_in max_depth 0 (value_literals values) >>= λ whole. Ok (RecordDescr whole)
-descr_in other = Err BadDescriptor
+descr_in value = type_of BadDescriptor (record_in max_depth 0) value

@@ -16,10 +16,6 @@ pub data Token : Type 0 where
 abbrev pub is_space : ℕ → Bool
 is_space b = nat_eq b 32 || nat_eq b 9 || nat_eq b 10 || nat_eq b 13
 
--- an apostrophe or a quotation mark
-abbrev pub is_quote : ℕ → Bool
-is_quote b = nat_eq b 39 || nat_eq b 34
-
 -- a byte of a string between these quotes: 32 to 126, except the quote and a backslash
 abbrev pub is_plain_byte : ℕ → ℕ → Bool
 is_plain_byte quote b = nat_le 32 b && nat_le b 126 && not (nat_eq b quote) && not (nat_eq b 92)
@@ -60,10 +56,11 @@ word letters =
 abbrev pub word_token : List ℕ → Token × List ℕ
 word_token bytes = let n = prefix_len is_ascii_alphabetic bytes in (word (take n bytes), drop n bytes)
 
--- the token that begins with the byte `b`, which is not a space, and the bytes after it
+-- The token that begins with the byte `b`, which is not a space, and the bytes after it. A string begins with an
+-- apostrophe or a quotation mark.
 abbrev pub token_from : ℕ → List ℕ → Token × List ℕ
 token_from b rest =
-    if is_quote b then text_token b rest
+    if nat_eq b 39 || nat_eq b 34 then text_token b rest
     else if is_ascii_digit b then integer_token (b ∷ rest)
     else if is_ascii_alphabetic b then word_token (b ∷ rest)
     else (Symbol b, rest)

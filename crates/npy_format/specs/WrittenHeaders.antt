@@ -1,37 +1,25 @@
 -- Writing the header of an array.
 use Rattle.std.specs.Prelude.{ℕ, zero, suc, ◌+◌, ◌-◌, ◌%◌, Bool, true, false, List, [], ◌∷◌, ◌++◌, length, codes, decimal, replicate, nat_lt, if◌then◌else◌}
-use Rattle.npy_format.specs.Words.{little_bytes, Descr, size, Fields, no_more, scalar_field, record_field, spelling, shape_text, ScalarDescr, RecordDescr}
+use Rattle.npy_format.specs.Words.{flat_map, little_bytes, Descr, size, Fields, no_more, scalar_field, record_field, spelling, shape_text, ScalarDescr, RecordDescr}
 use Rattle.npy_format.specs.Files.{magic}
 
 -- a Python string
 abbrev pub quoted : List ℕ → List ℕ
 quoted text = codes "'" ++ (text ++ codes "'")
 
--- an entry of a list, up to its type
-abbrev pub opened_entry : List ℕ → List ℕ
-opened_entry name = codes "(" ++ (quoted name ++ codes ", ")
-
--- a whole entry of a list: a name and a type
+-- an entry of a list: a name and a type
 abbrev pub entry : List ℕ → List ℕ → List ℕ
-entry name type = opened_entry name ++ (type ++ codes ")")
+entry name type = codes "(" ++ (quoted name ++ codes ", ") ++ (type ++ codes ")")
 
 -- the entry of a gap of this size, if it is not 0
 abbrev pub gap : ℕ → List (List ℕ)
 gap zero = []
 gap (suc n) = entry [] (quoted (codes "|V" ++ decimal (suc n))) ∷ []
 
--- the text before an entry: empty for the first entry
-abbrev pub entry_separator : Bool → List ℕ
-entry_separator true = []
-entry_separator false = codes ", "
-
--- entries separated by commas; `first` says whether they begin with the first entry of the list
-abbrev pub separated : Bool → List (List ℕ) → List ℕ
-separated first [] = []
-separated first (text ∷ texts) = entry_separator first ++ (text ++ separated false texts)
-
+-- entries in brackets, separated by commas
 abbrev pub in_brackets : List (List ℕ) → List ℕ
-in_brackets texts = codes "[" ++ (separated true texts ++ codes "]")
+in_brackets [] = codes "[]"
+in_brackets (text ∷ texts) = codes "[" ++ (text ++ flat_map (λ later. codes ", " ++ later) texts ++ codes "]")
 
 -- the entries of the fields from byte `from` on, and of the gaps before each and after the last
 abbrev pub entries : ℕ → Fields → ℕ → List (List ℕ)
@@ -59,21 +47,17 @@ written_text descr fortran shape =
 abbrev pub max_short_text : ℕ
 max_short_text = 65525
 
--- the smallest number of spaces that pad `bytes` bytes and a newline to a multiple of 64 bytes
-abbrev pub spaces_after : ℕ → ℕ
-spaces_after bytes = (64 - (bytes + 1) % 64) % 64
-
--- the text, spaces and a newline, padded to a multiple of 64 bytes together with the `before` bytes in front of it
+-- The text, the smallest number of spaces, and a newline, which make a multiple of 64 bytes together with the `before`
+-- bytes in front of them.
 abbrev pub padded_text : ℕ → List ℕ → List ℕ
-padded_text before text = text ++ (replicate (spaces_after (before + length text)) 32 ++ codes "\n")
+padded_text before text = text ++ (replicate ((64 - (before + length text + 1) % 64) % 64) 32 ++ codes "\n")
 
--- a header with its length in front, in `width` bytes
-abbrev pub with_length : ℕ → List ℕ → List ℕ
-with_length width text = little_bytes width (length text) ++ text
+-- the header in a version that stores the length of the padded text in `width` bytes
+abbrev pub in_version : ℕ → ℕ → List ℕ → List ℕ
+in_version version width text =
+    let padded = padded_text (8 + width) text in
+    magic ++ (version ∷ (0 ∷ (little_bytes width (length padded) ++ padded)))
 
 -- the header in version 1.0, or in version 2.0 if the text is too long for 1.0
 abbrev pub written_header : List ℕ → List ℕ
-written_header text =
-    if nat_lt max_short_text (length text)
-    then magic ++ (2 ∷ (0 ∷ with_length 4 (padded_text 12 text)))
-    else magic ++ (1 ∷ (0 ∷ with_length 2 (padded_text 10 text)))
+written_header text = if nat_lt max_short_text (length text) then in_version 2 4 text else in_version 1 2 text

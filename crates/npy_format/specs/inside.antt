@@ -4,3 +4,5 @@ pub mod Places
 pub mod WrittenItems
 pub mod Sound
 pub mod LoadedParts
+pub mod FieldTypes
+pub mod WrittenParts

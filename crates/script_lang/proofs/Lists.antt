@@ -1,6 +1,6 @@
 -- Lists of entries, turn by turn.
-use Rattle.std.proofs.Common.{◌≡◌, ◌<◌, ◌≤◌, ℕ, Bool, is_some, ◌⊎◌, true, false, inl, inr, List, [], ◌∷◌, ◌++◌, length, Option, Some, None, refl, ap, sym, ◌∙◌, arith, append_assoc, nat_lt, length-append, IsTrue, IfSome}
-use Rattle.script_lang.proofs.Words.{Shortens, option_map, option_and_then, append-nil, lt-ltb, cases_lt, false≢true, Refusal, Syntax, OutOfMemory, symbol_at, at_end, line_end_at, by_rule, entry_first, comma_next, one_or_more, none_or_more, row}
+use Rattle.std.proofs.Common.{◌≡◌, ◌<◌, ◌≤◌, ℕ, Bool, ◌⊎◌, true, false, inl, inr, List, [], ◌∷◌, ◌++◌, length, Option, Some, None, refl, ap, sym, ◌∙◌, arith, append_assoc, nat_lt, length-append, IsTrue, IfSome}
+use Rattle.script_lang.proofs.Words.{Shortens, option_map, option_and_then, append-nil, lt-ltb, cases_lt, false≢true, Refusal, Syntax, OutOfMemory, symbol_at, is_at_end, line_end_at, by_rule, entry_first, comma_next, one_or_more, none_or_more, row}
 use Rattle.script_lang.proofs.Turns.{one_turn, listed_goes_on, entries_goes_on, row_goes_on}
 
 -- what has been read so far, in front of what is read from the rest
@@ -102,17 +102,9 @@ module _ {A : Type 0} (entry_at : List ℕ → Option (A × List ℕ)) (shorter 
   unfolding row entry_first
   row_next x after no_end first = row_turn ∙ rw (no_end, first) (more_in_front read x (by_rule (row entry_at ending) after))
 
-ends_if : (bytes : List ℕ) (o : Option (Unit {0})) → is_some o ≡ true → option_map (λ (x : Unit {0}). bytes) o ≡ Some bytes
-ends_if bytes None ends = cc
-ends_if bytes (Some x) ends = refl
-
-none_if : (bytes : List ℕ) (o : Option (Unit {0})) → is_some o ≡ false → option_map (λ (x : Unit {0}). bytes) o ≡ None
-none_if bytes None goes = refl
-none_if bytes (Some x) goes = cc
-
 -- If only blanks remain, the line ends here.
-pub ends_here : (bytes : List ℕ) (test : Bool) → test ≡ is_some (at_end bytes) → test ≡ true → line_end_at bytes ≡ Some bytes
-ends_here bytes test is ends = ends_if bytes (at_end bytes) (sym is ∙ ends)
+pub ends_here : (bytes : List ℕ) (test : Bool) → test ≡ is_at_end bytes → test ≡ true → line_end_at bytes ≡ Some bytes
+ends_here bytes test is ends = rw (sym is ∙ ends) refl
 
-pub goes_on_here : (bytes : List ℕ) (test : Bool) → test ≡ is_some (at_end bytes) → test ≡ false → line_end_at bytes ≡ None
-goes_on_here bytes test is goes = none_if bytes (at_end bytes) (sym is ∙ goes)
+pub goes_on_here : (bytes : List ℕ) (test : Bool) → test ≡ is_at_end bytes → test ≡ false → line_end_at bytes ≡ None
+goes_on_here bytes test is goes = rw (sym is ∙ goes) refl

@@ -1,6 +1,6 @@
 -- What takes memory of its own.
-use Rattle.std.proofs.Common.{◌≡◌, ◌==◌, ℕ, Bool, true, false, List, length, not, Option, Some, None, refl, IsTrue, IfSome, nat_le, count_by, ◌||◌}
-use Rattle.script_lang.proofs.Words.{option_and_then, option_map, false≢true, IndexItem, is_ellipsis, Literal, where_true, byte_at, unspaced, by_rule, none_or_more, one_or_more, byte_text_at, bytes_at, scalar_at, literal_of_scalar, record_at, literal_at, index_item_at, index_at, optional_index_at, operand_named, operand_of, literal_of, bare_name_at, argument_at, scalar_room, literal_room, index_room, optional_index_room, operand_room, argument_room}
+use Rattle.std.proofs.Common.{◌≡◌, ℕ, Bool, true, false, List, length, ◌==◌, not, Option, Some, None, refl, IsTrue, IfSome, nat_le, count_by, ◌||◌, ◌&&◌, is_some, if◌then◌else◌}
+use Rattle.script_lang.proofs.Words.{option_and_then, option_map, false≢true, is_ellipsis, Literal, Scalar, Bytes, OperandArgument, LiteralArgument, ReaderOf, one_part, only, byte_at, unspaced, bytes_mark_at, name_at, by_rule, none_or_more, one_or_more, byte_text_at, scalar_at, record_at, literal_at, index_item_at, index_at, optional_index_at, operand_named, operand_at, argument_at, scalar_room, literal_room, index_room, optional_index_room, operand_room, argument_room}
 
 -- If what follows a step has P for every result of the step, the whole has P.
 pub after_step : {A B : Type 0} (P : B → Type 0) (step : Option A) (next : A → Option B) → ((x : A) → IfSome (next x) P) → IfSome (option_and_then next step) P
@@ -16,6 +16,14 @@ pub mapped : {A B : Type 0} (P : B → Type 0) (f : A → B) (o : Option A) → 
 mapped P f None known = tt
 mapped P f (Some x) known = known
 
+pub chosen : {A : Type 0} (P : A → Type 0) (t : Bool) (one other : Option A) → IfSome one P → IfSome other P → IfSome (if t then one else other) P
+chosen P true one other first second = first
+chosen P false one other first second = second
+
+-- If what is read has P, it still has it where it also passes a test.
+pub tested : {A : Type 0} (P : A × List ℕ → Type 0) (test : A × List ℕ → Bool) (read : ReaderOf A) (bytes : List ℕ) → IfSome (read bytes) P → IfSome (only test read bytes) P
+tested P test read bytes known = after_known P P (read bytes) _ known (λ found has. chosen P (test found) _ _ has tt)
+
 pub or_left : (a b : Bool) → IsTrue a → IsTrue (a || b)
 or_left true b is = refl
 or_left false b is = absurd (false≢true is)
@@ -28,37 +36,37 @@ or_right false b is = is
 abbrev pub Has : {A : Type 0} → (A → Bool) → A × List ℕ → Type 0
 Has room = λ r. IsTrue (room r.0)
 
-pub bytes_room : (bytes : List ℕ) → IfSome (bytes_at bytes) (Has scalar_room)
-unfolding bytes_at
+-- A value of one part takes memory if its part does.
+pub part_room : {A Z : Type 0} (room : A → Bool) (whole : Z → Bool) (make : A → Z) (read : ReaderOf A) (bytes : List ℕ) → IfSome (read bytes) (Has room) → ((x : A) → IsTrue (room x) → IsTrue (whole (make x))) → IfSome (one_part make read bytes) (Has whole)
+part_room room whole make read bytes known each = after_known (Has room) (Has whole) (read bytes) _ known (λ found more. each found.0 more)
+
+pub bytes_room : (bytes : List ℕ) → IfSome (one_part Bytes byte_text_at bytes) (Has scalar_room)
 bytes_room bytes = after_step (Has scalar_room) (byte_text_at bytes) _ (λ text. refl)
 
-pub record_room : (value_at : List ℕ → Option (Literal × List ℕ)) (bytes : List ℕ) → IfSome (record_at value_at bytes) (Has literal_room)
+pub record_room : (value_at : ReaderOf Literal) (bytes : List ℕ) → IfSome (record_at value_at bytes) (Has literal_room)
 unfolding record_at
 record_room value_at bytes =
-    after_step (Has literal_room) (by_rule (none_or_more value_at 41) bytes) _
-    (λ values. after_step (Has literal_room) (where_true (not (length values.0 == 0))) _ (λ some. refl))
+    after_step {A = List Literal × List ℕ} (Has literal_room) (only (λ values. not (length values.0 == 0)) (by_rule (none_or_more value_at 41)) bytes) _ (λ values. refl)
 
-pub scalar_literal_room : (bytes : List ℕ) → IfSome (scalar_at bytes) (Has scalar_room) → IfSome (option_map literal_of_scalar (scalar_at bytes)) (Has literal_room)
-scalar_literal_room bytes known = mapped (Has literal_room) literal_of_scalar (scalar_at bytes) known
+pub scalar_literal_room : (bytes : List ℕ) → IfSome (scalar_at bytes) (Has scalar_room) → IfSome (one_part Scalar scalar_at bytes) (Has literal_room)
+scalar_literal_room bytes known = part_room scalar_room literal_room Scalar scalar_at bytes known (λ scalar more. more)
 
 pub index_list_room : (bytes : List ℕ) → IfSome (by_rule (one_or_more index_item_at 93) bytes) (Has index_room) → IfSome (index_at bytes) (Has index_room)
 unfolding index_at
-index_list_room bytes known =
-    after_known (Has index_room) (Has index_room) (by_rule (one_or_more index_item_at 93) bytes) _ known
-    (λ items more. after_step (Has index_room) (where_true (nat_le (count_by is_ellipsis items.0) 1)) _ (λ once. more))
+index_list_room bytes known = tested (Has index_room) (λ items. nat_le (count_by is_ellipsis items.0) 1) (by_rule (one_or_more index_item_at 93)) bytes known
 
 pub optional_index_list_room : (bytes inside : List ℕ) → byte_at 91 bytes ≡ Some inside → IfSome (index_at inside) (Has index_room) → IfSome (optional_index_at bytes) (Has optional_index_room)
 unfolding optional_index_at
-optional_index_list_room bytes inside found known = rw found (mapped (Has optional_index_room) (λ (index : List (IndexItem (List ℕ)) × List ℕ). (Some index.0, index.1)) (index_at inside) known)
+optional_index_list_room bytes inside found known = rw found (part_room index_room optional_index_room Some index_at inside known (λ index more. more))
 
-pub indexed_room : (name : List ℕ × List ℕ) → IfSome (optional_index_at name.1) (Has optional_index_room) → IfSome (operand_named name) (Has operand_room)
-unfolding operand_named
-indexed_room name known = after_known (Has optional_index_room) (Has operand_room) (optional_index_at name.1) _ known (λ index more. more)
+pub indexed_room : (name bytes : List ℕ) → IfSome (optional_index_at bytes) (Has optional_index_room) → IfSome (one_part (operand_named name) optional_index_at bytes) (Has operand_room)
+indexed_room name bytes known = part_room optional_index_room operand_room (operand_named name) optional_index_at bytes known (λ index more. more)
 
-pub operand_argument_room : (bytes : List ℕ) (name : List ℕ × List ℕ) → bare_name_at (unspaced bytes) ≡ Some name → IfSome (operand_named name) (Has operand_room) → IfSome (argument_at bytes) (Has argument_room)
+pub operand_argument_room : (bytes : List ℕ) (name : List ℕ × List ℕ) → bytes_mark_at (unspaced bytes) ≡ None → name_at bytes ≡ Some name → IfSome (one_part (operand_named name.0) optional_index_at name.1) (Has operand_room) → IfSome (argument_at bytes) (Has argument_room)
+unfolding argument_at operand_at
+operand_argument_room bytes name unmarked named known =
+    rw (unmarked, named) (after_known (Has operand_room) (Has argument_room) (one_part (operand_named name.0) optional_index_at name.1) _ known (λ operand more. more))
+
+pub literal_argument_room : (bytes : List ℕ) → (not (is_some (bytes_mark_at (unspaced bytes))) && is_some (name_at bytes)) ≡ false → IfSome (literal_at bytes) (Has literal_room) → IfSome (argument_at bytes) (Has argument_room)
 unfolding argument_at
-operand_argument_room bytes name named known = rw named (mapped (Has argument_room) operand_of (operand_named name) known)
-
-pub literal_argument_room : (bytes : List ℕ) → bare_name_at (unspaced bytes) ≡ None → IfSome (literal_at (unspaced bytes)) (Has literal_room) → IfSome (argument_at bytes) (Has argument_room)
-unfolding argument_at
-literal_argument_room bytes named known = rw named (mapped (Has argument_room) literal_of (literal_at (unspaced bytes)) known)
+literal_argument_room bytes other known = rw other (part_room literal_room argument_room LiteralArgument literal_at bytes known (λ literal more. more))

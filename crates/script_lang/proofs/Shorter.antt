@@ -1,7 +1,7 @@
 -- A reader leaves fewer bytes than it was given.
-use Rattle.std.proofs.Common.{◌≡◌, ◌<◌, ◌≤◌, ℕ, zero, suc, Bool, true, false, List, [], ◌∷◌, length, Option, Some, None, arith, length-drop, nat_eq, codes, not, ◌==◌, subst, ℤ, nat_le, IfSome, if◌then◌else◌}
-use Rattle.script_lang.proofs.Words.{Shortens, prefix_len, option_map, bytes_eq, eqb-suc-zero, IndexItem, Ellipsis, NewAxis, ScalarLiteral, Literal, ◌>>=◌, ◌or_else◌, if_found, where_true, is_blank, is_digit, is_name_byte, unspaced, byte_at, symbol_at, front_at, front_of, bytes_mark_at, is_parted, word_at, keyword_at, is_name, name_at, number_at, length_at, positive, negative, signed_at, integer_at, optional, optional_integer_at, in_turns, by_rule, closed, entry_first, comma_next, one_or_more, none_or_more, row, hex_value, hex_digit_at, escape_at, is_plain, plain_byte_at, text_byte_at, byte_text_at, integer_of, boolean_at, bytes_at, scalar_at, literal_of_scalar, record_at, literal_within, max_literal_depth, literal_at, step_at, slice_at, ellipsis_at, integer_item, item_with_rest, array_item, bare_item_at, index_item_at}
-use Rattle.script_lang.proofs.Rooms.{after_step, after_known, mapped}
+use Rattle.std.proofs.Common.{◌≡◌, ◌<◌, ◌≤◌, ℕ, zero, suc, Bool, true, false, List, [], ◌∷◌, length, Option, Some, None, arith, length-drop, nat_eq, codes, not, ◌==◌, subst, ℤ, nat_le, IfSome, if◌then◌else◌, ◌&&◌, ◌+◌, ◌*◌}
+use Rattle.script_lang.proofs.Words.{Shortens, prefix_len, option_map, bytes_eq, eqb-suc-zero, IndexItem, ScalarLiteral, Literal, Scalar, ReaderOf, ◌>>=◌, ◌or_else◌, if_found, one_part, two_parts, only, behind, is_blank, is_digit, is_name_byte, unspaced, byte_at, symbol_at, front_at, front_of, bytes_mark_at, is_parted, word_at, keyword_at, is_name, name_at, number_at, length_at, integer_at, optional_integer_at, in_turns, by_rule, closed, entry_first, comma_next, one_or_more, none_or_more, row, hex_value, hex_digit_at, escape_at, is_plain, plain_byte_at, text_byte_at, byte_text_at, scalar_at, record_at, literal_within, literal_at, step_at, slice_at, ellipsis_at, index_item_at}
+use Rattle.script_lang.proofs.Rooms.{after_step, after_known, mapped, chosen, tested}
 
 -- fewer than `n` bytes remain: on their own, and after what is read
 abbrev pub Few : ℕ → List ℕ → Type 0
@@ -18,10 +18,6 @@ either : {A : Type 0} (P : A → Type 0) (first second : Option A) → IfSome fi
 either P None second one two = two
 either P (Some x) second one two = one
 
-chosen : {A : Type 0} (P : A → Type 0) (t : Bool) (one other : Option A) → IfSome one P → IfSome other P → IfSome (if t then one else other) P
-chosen P true one other first second = first
-chosen P false one other first second = second
-
 found : {A B : Type 0} (Q : B → Type 0) (P : A → Type 0) (o : Option B) (next : B → Option A) (other : Option A) → IfSome o Q → ((x : B) → Q x → IfSome (next x) P) → IfSome other P → IfSome (if_found o next other) P
 found Q P None next other known each otherwise = otherwise
 found Q P (Some x) next other known each otherwise = each x known
@@ -29,6 +25,14 @@ found Q P (Some x) next other known each otherwise = each x known
 -- reading from fewer bytes
 within : {A : Type 0} (n : ℕ) (read : List ℕ → Option (A × List ℕ)) → Shortens read → (rest : List ℕ) → length rest ≤ n → IfSome (read rest) (Less n)
 within n read shorter rest few = weaker (Less (length rest)) (Less n) (read rest) (shorter rest) (λ r less. omega arith)
+
+-- A value of one part leaves what its part leaves, and one of two parts what the second leaves.
+part_within : {A Z : Type 0} (n : ℕ) (make : A → Z) (read : ReaderOf A) (bytes : List ℕ) → IfSome (read bytes) (Less n) → IfSome (one_part make read bytes) (Less n)
+part_within n make read bytes known = after_known (Less n) (Less n) (read bytes) _ known (λ part few. few)
+
+parts_shorter : {A B Z : Type 0} (make : A → B → Z) (first : ReaderOf A) (second : ReaderOf B) → Shortens first → Shortens second → Shortens (two_parts make first second)
+parts_shorter make first second one two bytes =
+    after_known (Less (length bytes)) (Less (length bytes)) (first bytes) _ (one bytes) (λ a few. part_within (length bytes) (make a.0) second a.1 (within (length bytes) second two a.1 (omega arith)))
 
 -- Tokens
 
@@ -60,68 +64,69 @@ front_shorter test (b ∷ bytes) = front_cons (prefix_len test (b ∷ bytes)) b 
 number_shorter : Shortens number_at
 unfolding number_at
 number_shorter bytes =
-    let P = Less {A = ℕ} (length bytes) in
-    after_known (Less (length bytes)) P (front_at is_digit bytes) _ (front_shorter is_digit bytes)
-    (λ digits less. after_step P (where_true (nat_le (length digits.0) 30)) _ (λ few. after_step P (where_true (is_parted digits.1)) _ (λ parted. less)))
+    let P = Less {A = List ℕ} (length bytes) in
+    part_within (length bytes) _ (only (λ digits. nat_le (length digits.0) 30 && is_parted digits.1) (front_at is_digit)) bytes (tested P (λ digits. nat_le (length digits.0) 30 && is_parted digits.1) (front_at is_digit) bytes (front_shorter is_digit bytes))
 
 pub length_shorter : Shortens length_at
 unfolding length_at
 length_shorter bytes = within (length bytes) number_at number_shorter (unspaced bytes) (unspaced_length bytes)
 
-signed_shorter : Shortens signed_at
-signed_shorter [] = tt
-signed_shorter (b ∷ bytes) =
-    let P = Less {A = ℤ} (length (b ∷ bytes)) in
-    let behind = within (length (b ∷ bytes)) number_at number_shorter bytes (omega arith) in
-    chosen P (nat_eq b 45) _ _ (mapped P negative (number_at bytes) behind)
-    (chosen P (nat_eq b 43) _ _ (mapped P positive (number_at bytes) behind) (mapped P positive (number_at (b ∷ bytes)) (number_shorter (b ∷ bytes))))
-
 pub integer_shorter : Shortens integer_at
 unfolding integer_at
-integer_shorter bytes = within (length bytes) signed_at signed_shorter (unspaced bytes) (unspaced_length bytes)
+integer_shorter bytes =
+    let P = Less {A = ℤ} (length bytes) in
+    let after_sign : (rest : List ℕ) → Few (length bytes) rest → IfSome (number_at rest) (Less (length bytes)) = λ rest few. within (length bytes) number_at number_shorter rest (omega arith) in
+    found (Few (length bytes)) P (symbol_at 45 bytes) _ _ (symbol_shorter 45 bytes) (λ rest few. part_within (length bytes) _ number_at rest (after_sign rest few))
+    (found (Few (length bytes)) P (symbol_at 43 bytes) _ _ (symbol_shorter 43 bytes) (λ rest few. part_within (length bytes) _ number_at rest (after_sign rest few))
+    (part_within (length bytes) _ length_at bytes (length_shorter bytes)))
 
 word_shorter : Shortens word_at
 unfolding word_at
 word_shorter bytes =
     let P = Less {A = List ℕ} (length bytes) in
-    after_known P P (front_at is_name_byte (unspaced bytes)) _ (within (length bytes) (front_at is_name_byte) (front_shorter is_name_byte) (unspaced bytes) (unspaced_length bytes))
-    (λ word less. after_step P (where_true (is_parted word.1)) _ (λ parted. less))
+    tested P (λ word. is_parted word.1) (front_at is_name_byte) (unspaced bytes) (within (length bytes) (front_at is_name_byte) (front_shorter is_name_byte) (unspaced bytes) (unspaced_length bytes))
 
 keyword_shorter : (keyword bytes : List ℕ) → IfSome (keyword_at keyword bytes) (Few (length bytes))
 unfolding keyword_at
 keyword_shorter keyword bytes =
-    let P = Few (length bytes) in
-    after_known (Less (length bytes)) P (word_at bytes) _ (word_shorter bytes) (λ word less. after_step P (where_true (bytes_eq word.0 keyword)) _ (λ same. less))
+    let P = Less {A = List ℕ} (length bytes) in
+    mapped (Few (length bytes)) (λ (word : List ℕ × List ℕ). word.1) _ (tested P (λ word. bytes_eq word.0 keyword) word_at bytes (word_shorter bytes))
 
 name_shorter : Shortens name_at
 unfolding name_at
-name_shorter bytes =
-    let P = Less {A = List ℕ} (length bytes) in
-    after_known P P (word_at bytes) _ (word_shorter bytes) (λ word less. after_step P (where_true (is_name word.0)) _ (λ name. less))
+name_shorter bytes = tested (Less (length bytes)) (λ word. is_name word.0) word_at bytes (word_shorter bytes)
 
 -- Index items
 
+-- at most `n` bytes remain
+abbrev AtMost : {A : Type 0} → ℕ → A × List ℕ → Type 0
+AtMost n r = length r.1 ≤ n
+
 -- An optional integer leaves at most as many bytes.
-optional_length : {A : Type 0} (bytes : List ℕ) (o : Option (A × List ℕ)) → IfSome o (Less (length bytes)) → length (optional bytes o).1 ≤ length bytes
-optional_length bytes None known = omega arith
-optional_length bytes (Some r) known = omega (arith, known)
-
-optional_integer_length : (bytes : List ℕ) → length (optional_integer_at bytes).1 ≤ length bytes
+optional_integer_within : (n : ℕ) (bytes : List ℕ) → length bytes ≤ n → IfSome (optional_integer_at bytes) (AtMost n)
 unfolding optional_integer_at
-optional_integer_length bytes = optional_length bytes (integer_at bytes) (integer_shorter bytes)
+optional_integer_within n bytes few =
+    found (Less (length bytes)) (AtMost n) (integer_at bytes) _ _ (integer_shorter bytes) (λ integer less. omega arith) few
 
-step_length : (bytes : List ℕ) (o : Option (List ℕ)) → IfSome o (Few (length bytes)) → length (step_at bytes o).1 ≤ length bytes
-step_length bytes None known = omega arith
-step_length bytes (Some rest) known = omega (arith, known, optional_integer_length rest)
+step_within : (n : ℕ) (bytes : List ℕ) → length bytes ≤ n → IfSome (step_at bytes) (AtMost n)
+step_within n bytes few =
+    found (Few (length bytes)) (AtMost n) (symbol_at 58 bytes) _ _ (symbol_shorter 58 bytes) (λ rest less. optional_integer_within n rest (omega arith)) few
+
+stop_within : (n : ℕ) (bytes : List ℕ) → length bytes ≤ n → IfSome (behind 58 optional_integer_at bytes) (Less n)
+stop_within n bytes few =
+    after_known (Few n) (Less n) (symbol_at 58 bytes) _ (symbol_within n 58 bytes few)
+    (λ rest less. weaker (AtMost (length rest)) (Less n) (optional_integer_at rest) (optional_integer_within (length rest) rest (omega arith)) (λ stop most. omega arith))
 
 slice_shorter : Shortens slice_at
 unfolding slice_at
 slice_shorter bytes =
-    let start = (optional_integer_at bytes).1 in
-    after_known (Few (length start)) (Less (length bytes)) (symbol_at 58 start) _ (symbol_shorter 58 start)
-    (λ rest few.
-    let stop = (optional_integer_at rest).1 in
-    omega (arith, few, optional_integer_length bytes, optional_integer_length rest, step_length stop (symbol_at 58 stop) (symbol_shorter 58 stop)))
+    let n = length bytes in
+    let P = Less {A = IndexItem (List ℕ)} n in
+    after_known (AtMost n) P (optional_integer_at bytes) _ (optional_integer_within n bytes (omega arith))
+    (λ start most. after_known (Less n) P (behind 58 optional_integer_at start.1) _ (stop_within n start.1 most)
+    (λ stop less. after_known (Less n) P (step_at stop.1) _
+    (weaker (AtMost (length stop.1)) (Less n) (step_at stop.1) (step_within (length stop.1) stop.1 (omega arith)) (λ step no_more. omega arith))
+    (λ step few. few)))
 
 ellipsis_shorter : (bytes : List ℕ) → IfSome (ellipsis_at bytes) (Few (length bytes))
 unfolding ellipsis_at
@@ -129,18 +134,15 @@ ellipsis_shorter bytes =
     let P = Few (length bytes) in
     after_known P P (byte_at 46 (unspaced bytes) >>= byte_at 46) (byte_at 46) (two_within (length bytes) 46 46 (unspaced bytes) (unspaced_length bytes)) (λ rest few. byte_within (length bytes) 46 rest (omega arith))
 
-bare_item_shorter : Shortens bare_item_at
-bare_item_shorter bytes =
-    let P = Less {A = IndexItem (List ℕ)} (length bytes) in
-    either P _ _ (either P _ _ (either P _ _ (either P _ _ (slice_shorter bytes)
-    (mapped P integer_item (integer_at bytes) (integer_shorter bytes)))
-    (mapped P (item_with_rest Ellipsis) (ellipsis_at bytes) (ellipsis_shorter bytes)))
-    (mapped P (item_with_rest NewAxis) (keyword_at (codes "None") bytes) (keyword_shorter (codes "None") bytes)))
-    (mapped P array_item (name_at bytes) (name_shorter bytes))
-
 pub index_item_shorter : Shortens index_item_at
 unfolding index_item_at
-index_item_shorter bytes = within (length bytes) bare_item_at bare_item_shorter (unspaced bytes) (unspaced_length bytes)
+index_item_shorter bytes =
+    let P = Less {A = IndexItem (List ℕ)} (length bytes) in
+    either P _ _ (either P _ _ (either P _ _ (either P _ _ (slice_shorter bytes)
+    (part_within (length bytes) _ integer_at bytes (integer_shorter bytes)))
+    (mapped P _ (ellipsis_at bytes) (ellipsis_shorter bytes)))
+    (mapped P _ (keyword_at (codes "None") bytes) (keyword_shorter (codes "None") bytes)))
+    (part_within (length bytes) _ name_at bytes (name_shorter bytes))
 
 -- Lists
 
@@ -156,10 +158,7 @@ closed_within A n (Some end) known = known
 module _ {A : Type 0} (entry_at : List ℕ → Option (A × List ℕ)) (shorter : Shortens entry_at) where
   first_shorter : (others_at : List ℕ → Option (List A × List ℕ)) → Shortens others_at → Shortens (entry_first entry_at others_at)
   unfolding entry_first
-  first_shorter others_at others bytes =
-      let P = Less {A = List A} (length bytes) in
-      after_known (Less (length bytes)) P (entry_at bytes) _ (shorter bytes)
-      (λ first less. after_known P P (others_at first.1) _ (within (length bytes) others_at others first.1 (omega arith)) (λ rest few. few))
+  first_shorter others_at others = parts_shorter (λ first rest. first ∷ rest) entry_at others_at shorter others
 
   comma_shorter : (closing : ℕ) (others_at : List ℕ → Option (List A × List ℕ)) → Shortens others_at → Shortens (comma_next closing others_at)
   unfolding comma_next
@@ -198,8 +197,7 @@ unfolding escape_at
 escape_shorter bytes =
     let P = Less {A = ℕ} (length bytes) in
     after_known (Few (length bytes)) P (byte_at 120 bytes) _ (byte_within (length bytes) 120 bytes (omega arith))
-    (λ digits few. after_known P P (hex_digit_at digits) _ (within (length bytes) hex_digit_at digit_shorter digits (omega arith))
-    (λ high fewer. after_known P P (hex_digit_at high.1) _ (within (length bytes) hex_digit_at digit_shorter high.1 (omega arith)) (λ low fewest. fewest)))
+    (λ digits few. within (length bytes) (two_parts (λ high low. high * 16 + low) hex_digit_at hex_digit_at) (parts_shorter _ hex_digit_at hex_digit_at digit_shorter digit_shorter) digits (omega arith))
 
 plain_byte_shorter : Shortens plain_byte_at
 plain_byte_shorter [] = tt
@@ -211,34 +209,25 @@ text_byte_shorter bytes =
     found (Few (length bytes)) (Less (length bytes)) (byte_at 92 bytes) escape_at (plain_byte_at bytes) (byte_within (length bytes) 92 bytes (omega arith))
     (λ rest few. within (length bytes) escape_at escape_shorter rest (omega arith)) (plain_byte_shorter bytes)
 
-bytes_shorter : Shortens bytes_at
-unfolding bytes_at byte_text_at
-bytes_shorter bytes = after_known (Less (length bytes)) (Less (length bytes)) (by_rule (row text_byte_at (byte_at 39)) bytes) _ (row_shorter text_byte_at text_byte_shorter 39 bytes) (λ text less. less)
-
-boolean_shorter : Shortens boolean_at
-unfolding boolean_at
-boolean_shorter bytes =
-    let P = Less {A = ScalarLiteral} (length bytes) in
-    after_known (Less (length bytes)) P (word_at bytes) _ (word_shorter bytes)
-    (λ word less. chosen P (bytes_eq word.0 (codes "True")) _ _ less (chosen P (bytes_eq word.0 (codes "False")) _ _ less tt))
-
 scalar_shorter : Shortens scalar_at
-unfolding scalar_at bytes_mark_at
+unfolding scalar_at bytes_mark_at byte_text_at
 scalar_shorter bytes =
-    let P = Less {A = ScalarLiteral} (length bytes) in
-    found (Few (length bytes)) P (bytes_mark_at bytes) bytes_at _ (two_within (length bytes) 98 39 bytes (omega arith))
-    (λ inside few. within (length bytes) bytes_at bytes_shorter inside (omega arith))
-    (either P _ _ (mapped P integer_of (integer_at bytes) (integer_shorter bytes)) (boolean_shorter bytes))
+    let n = length bytes in
+    let P = Less {A = ScalarLiteral} n in
+    found (Few n) P (bytes_mark_at bytes) _ _ (two_within n 98 39 bytes (omega arith))
+    (λ inside few. part_within n _ byte_text_at inside (within n byte_text_at (row_shorter text_byte_at text_byte_shorter 39) inside (omega arith)))
+    (either P _ _ (either P _ _ (part_within n _ integer_at bytes (integer_shorter bytes))
+    (mapped P _ (keyword_at (codes "True") bytes) (keyword_shorter (codes "True") bytes)))
+    (mapped P _ (keyword_at (codes "False") bytes) (keyword_shorter (codes "False") bytes)))
 
-scalar_literal_shorter : Shortens (λ bytes. option_map literal_of_scalar (scalar_at (unspaced bytes)))
-scalar_literal_shorter bytes = mapped (Less (length bytes)) literal_of_scalar (scalar_at (unspaced bytes)) (within (length bytes) scalar_at scalar_shorter (unspaced bytes) (unspaced_length bytes))
+scalar_literal_shorter : Shortens (λ bytes. one_part Scalar scalar_at (unspaced bytes))
+scalar_literal_shorter bytes = part_within (length bytes) Scalar scalar_at (unspaced bytes) (within (length bytes) scalar_at scalar_shorter (unspaced bytes) (unspaced_length bytes))
 
-record_shorter : (value_at : List ℕ → Option (Literal × List ℕ)) → Shortens value_at → Shortens (record_at value_at)
+record_shorter : (value_at : ReaderOf Literal) → Shortens value_at → Shortens (record_at value_at)
 unfolding record_at
 record_shorter value_at shorter bytes =
-    let P = Less {A = Literal} (length bytes) in
-    after_known (Less (length bytes)) P (by_rule (none_or_more value_at 41) bytes) _ (entries_shorter value_at shorter 41 bytes)
-    (λ values less. after_step P (where_true (not (length values.0 == 0))) _ (λ some. less))
+    part_within (length bytes) _ (only (λ values. not (length values.0 == 0)) (by_rule (none_or_more value_at 41))) bytes
+    (tested (Less (length bytes)) (λ values. not (length values.0 == 0)) (by_rule (none_or_more value_at 41)) bytes (entries_shorter value_at shorter 41 bytes))
 
 pub literal_within_shorter : (depth : ℕ) → Shortens (literal_within depth)
 unfolding literal_within
@@ -250,7 +239,7 @@ literal_within_shorter (suc depth) bytes =
 
 pub literal_shorter : Shortens literal_at
 unfolding literal_at
-literal_shorter bytes = literal_within_shorter max_literal_depth bytes
+literal_shorter bytes = literal_within_shorter 4 bytes
 
 -- An entry, and the comma after it, leave fewer bytes.
 pub entry_behind : {A : Type 0} (entry_at : List ℕ → Option (A × List ℕ)) → Shortens entry_at → (rest : List ℕ) (x : A) (after : List ℕ) → entry_at rest ≡ Some (x, after) → length after < length rest

@@ -1,6 +1,6 @@
 -- Bytes that are numbers.
-use Rattle.std.proofs.Common.{◌≡◌, ◌≤◌, ◌<◌, ◌^◌, ◌+◌, ℕ, suc, Bool, true, false, List, [], ◌∷◌, take, Some, None, refl, arith, nat_eq, cond, if◌then◌else◌, IfSome, length, drop, subst, length-drop}
-use Rattle.script_lang.proofs.Words.{record_mark_at, is_mark, pow-le-pow_right, list_all, prefix_len, option_map, byte_at, number_at, signed_at, positive, negative}
+use Rattle.std.proofs.Common.{◌≡◌, ◌≤◌, ◌<◌, ◌^◌, ◌+◌, ℕ, suc, Bool, true, false, List, [], ◌∷◌, take, Some, refl, arith, cond, IfSome, length, drop, subst, length-drop}
+use Rattle.script_lang.proofs.Words.{record_mark_at, is_mark, pow-le-pow_right, list_all, prefix_len}
 use Rattle.script_lang.proofs.Shorter.{Few, two_within}
 
 -- A number with fewer digits is below the power of ten for more digits.
@@ -17,18 +17,6 @@ passing_cons test b bytes true is rest =
 pub passing_front : (test : ℕ → Bool) (bytes : List ℕ) → list_all test (take (prefix_len test bytes) bytes) ≡ true
 passing_front test [] = refl
 passing_front test (b ∷ bytes) = passing_cons test b bytes (test b) refl (passing_front test bytes)
-
-neither : {A B : Type 0} (s t : Bool) (x : A) (minus plus plain : B) → (if s then Some x else None) ≡ None → (if t then Some x else None) ≡ None → (if s then minus else if t then plus else plain) ≡ plain
-neither false false x minus plus plain no_minus no_plus = refl
-neither false true x minus plus plain no_minus no_plus = cc
-neither true t x minus plus plain no_minus no_plus = cc
-
--- If no sign comes first, a number without a sign is read.
-pub signed_plain : (bytes : List ℕ) → byte_at 45 bytes ≡ None → byte_at 43 bytes ≡ None → signed_at bytes ≡ option_map positive (number_at bytes)
-unfolding number_at
-signed_plain [] no_minus no_plus = refl
-signed_plain (b ∷ bytes) no_minus no_plus =
-    neither (nat_eq b 45) (nat_eq b 43) bytes (option_map negative (number_at bytes)) (option_map positive (number_at bytes)) (option_map positive (number_at (b ∷ bytes))) no_minus no_plus
 
 -- The text after the marks and `T{` is at most as long as the whole text.
 pub record_mark_shorter : (bytes inside : List ℕ) → record_mark_at bytes ≡ Some inside → length inside ≤ length bytes

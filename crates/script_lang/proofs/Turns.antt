@@ -1,13 +1,13 @@
 -- More turns than there are bytes do not change what a rule reads.
 use Rattle.std.proofs.Common.{◌≡◌, ◌<◌, ℕ, zero, suc, List, ◌∷◌, length, Option, Some, None, refl, ap, arith, IfSome}
-use Rattle.script_lang.proofs.Words.{Shortens, option_and_then, ◌or_else◌, byte_at, symbol_at, length_at, integer_at, in_turns, by_rule, AnyTurns, closed, entry_first, comma_next, one_or_more, none_or_more, row, text_byte_at, literal_within, literal_at, line_end_at, index_item_at, EachListAnyTurns}
+use Rattle.script_lang.proofs.Words.{ReaderOf, Shortens, option_and_then, ◌or_else◌, byte_at, symbol_at, length_at, integer_at, in_turns, by_rule, AnyTurns, closed, entry_first, comma_next, one_or_more, none_or_more, row, text_byte_at, literal_within, literal_at, line_end_at, index_item_at, EachListAnyTurns}
 use Rattle.script_lang.proofs.Shorter.{Less, Few, weaker, symbol_shorter, length_shorter, integer_shorter, index_item_shorter, text_byte_shorter, literal_within_shorter, literal_shorter}
 
 -- a rule that takes at least one byte before it goes on
-abbrev pub GoesOn : {B : Type 0} → ((List ℕ → Option B) → List ℕ → Option B) → Type 0
-GoesOn {B = B} rule = (f g : List ℕ → Option B) (bytes : List ℕ) → ((rest : List ℕ) → length rest < length bytes → f rest ≡ g rest) → rule f bytes ≡ rule g bytes
+abbrev pub GoesOn : {A : Type 0} → (ReaderOf A → ReaderOf A) → Type 0
+GoesOn {A = A} rule = (f g : ReaderOf A) (bytes : List ℕ) → ((rest : List ℕ) → length rest < length bytes → f rest ≡ g rest) → rule f bytes ≡ rule g bytes
 
-module _ {B : Type 0} (rule : (List ℕ → Option B) → List ℕ → Option B) (goes_on : GoesOn rule) where
+module _ {A : Type 0} (rule : ReaderOf A → ReaderOf A) (goes_on : GoesOn rule) where
   same_reading : (m n : ℕ) (bytes : List ℕ) → length bytes < m → length bytes < n → in_turns rule m bytes ≡ in_turns rule n bytes
   unfolding in_turns
   same_reading zero n bytes few more = absurd (omega (arith, few))

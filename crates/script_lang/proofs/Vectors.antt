@@ -1,6 +1,6 @@
 -- Record literals, worked out by hand.
 use Rattle.std.proofs.Common.{◌≡◌, ℕ, pos, true, List, [], ◌∷◌, map, Option, Some, None, codes, refl}
-use Rattle.script_lang.proofs.Words.{ScalarLiteral, Integer, Boolean, Bytes, Literal, Scalar, Record, Values, no_values, scalar_value, record_value, value_count, all_values, literals_of, word_at, number_at, integer_at, is_parted, bytes_mark_at, by_rule, in_turns, entry_first, comma_next, one_or_more, none_or_more, row, text_byte_at, byte_text_at, boolean_at, bytes_at, scalar_at, record_at, literal_within, literal_at}
+use Rattle.script_lang.proofs.Words.{ScalarLiteral, Integer, Boolean, Bytes, Literal, Scalar, Record, Values, no_values, scalar_value, record_value, value_count, all_values, literals_of, word_at, keyword_at, number_at, length_at, integer_at, is_parted, bytes_mark_at, by_rule, in_turns, entry_first, comma_next, one_or_more, none_or_more, row, text_byte_at, byte_text_at, scalar_at, record_at, literal_within, literal_at}
 
 abbrev number : ℕ → ScalarLiteral
 number n = Integer (pos n)
@@ -29,7 +29,7 @@ literals =
     []
 
 literals_hold : map (λ entry. literal_at entry.0) literals ≡ map (λ entry. entry.1) literals
-unfolding literal_at literal_within record_at by_rule in_turns entry_first comma_next one_or_more none_or_more scalar_at integer_at number_at is_parted bytes_mark_at boolean_at word_at bytes_at byte_text_at row text_byte_at
+unfolding literal_at literal_within record_at by_rule in_turns entry_first comma_next one_or_more none_or_more scalar_at integer_at length_at number_at is_parted bytes_mark_at keyword_at word_at byte_text_at row text_byte_at
 literals_hold = refl
 
 -- (1, (2, (3)), True)

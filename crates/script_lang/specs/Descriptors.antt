@@ -1,7 +1,8 @@
 -- The text of a descriptor in a line.
 use Rattle.std.specs.Prelude.{ℕ, ◌+◌, ◌-◌, Bool, true, false, List, [], ◌∷◌, length, Option, Some, None, nat_eq, if◌then◌else◌, take, drop, not, ◌||◌}
 use Rattle.script_lang.specs.Words.{prefix_len, option_map}
-use Rattle.script_lang.specs.Tokens.{◌>>=◌, if_found, where_true, is_blank, is_parted, byte_at, front_at}
+use Rattle.script_lang.specs.Readers.{ReaderOf, ◌>>=◌, if_found}
+use Rattle.script_lang.specs.Tokens.{is_blank, is_parted, byte_at, front_at}
 
 -- the marks `<`, `>`, `!`, `=`, `@` and `^`
 abbrev pub is_mark : ℕ → Bool
@@ -27,14 +28,13 @@ record_len named depth [] = None
 record_len named depth (b ∷ bytes) = if nat_eq (depth_behind named b depth) 0 then Some 1 else option_map (λ n. n + 1) (record_len (named_behind named b) (depth_behind named b depth) bytes)
 
 -- the text `bytes` up to the closing brace, given also the bytes after its `T{`
-unfoldable pub record_text_at : List ℕ → List ℕ → Option (List ℕ × List ℕ)
+unfoldable pub record_text_at : List ℕ → ReaderOf (List ℕ)
 record_text_at bytes inside = do
   n ← record_len false 1 inside
-  _ ← where_true (is_parted (drop n inside))
-  Some (take (length bytes - length inside + n) bytes, drop n inside)
+  if is_parted (drop n inside) then Some (take (length bytes - length inside + n) bytes, drop n inside) else None
 
 -- a descriptor, after at least one blank: the text of a record, or the bytes up to the next blank
-unfoldable pub descriptor_at : List ℕ → Option (List ℕ × List ℕ)
+unfoldable pub descriptor_at : ReaderOf (List ℕ)
 descriptor_at bytes = do
   blanks ← front_at is_blank bytes
   if_found (record_mark_at blanks.1) (record_text_at blanks.1) (front_at (λ b. not (is_blank b)) blanks.1)

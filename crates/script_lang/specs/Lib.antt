@@ -5,6 +5,7 @@ pub mod Lines
 pub mod Listed
 pub mod Lists
 pub mod Literals
+pub mod Readers
 pub mod Reading
 pub mod RecordLaws
 pub mod RecordValues

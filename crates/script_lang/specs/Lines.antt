@@ -1,8 +1,8 @@
 -- What a line of the script says.
-use Rattle.std.specs.Prelude.{ℕ, Bool, true, List, [], ◌∷◌, Option, Some, None, nat_eq, nat_le, if◌then◌else◌, ◌||◌, ◌&&◌}
+use Rattle.std.specs.Prelude.{ℕ, Bool, List, Option, Some, None, is_some, nat_eq, nat_le, if◌then◌else◌, ◌||◌, ◌&&◌}
 use Rattle.script_lang.specs.Words.{list_all}
 use Rattle.script_lang.specs.declared.command.Command.{Command}
-use Rattle.script_lang.specs.Tokens.{unspaced, byte_at, length_at, integer_at}
+use Rattle.script_lang.specs.Tokens.{unspaced, byte_at, symbol_at, is_at_end, length_at, integer_at}
 use Rattle.script_lang.specs.Lists.{AnyTurns, one_or_more, none_or_more, row}
 use Rattle.script_lang.specs.Literals.{text_byte_at, literal_within, literal_at, line_end_at}
 use Rattle.script_lang.specs.Indexes.{index_item_at}
@@ -12,13 +12,9 @@ use Rattle.script_lang.specs.Commands.{command_at}
 abbrev pub is_allowed : ℕ → Bool
 is_allowed b = nat_eq b 9 || (nat_le 32 b && nat_le b 126)
 
-abbrev pub is_silent_front : List ℕ → Bool
-is_silent_front [] = true
-is_silent_front (b ∷ bytes) = nat_eq b 35
-
 -- only blanks, or a comment: the first byte that is not a blank is `#`
 abbrev pub is_silent : List ℕ → Bool
-is_silent line = is_silent_front (unspaced line)
+is_silent line = is_at_end line || is_some (symbol_at 35 line)
 
 -- what a line says
 pub data Line : Type 0 where

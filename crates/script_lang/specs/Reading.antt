@@ -1,7 +1,6 @@
 -- How the result of the parser relates to what a line says.
-use Rattle.std.specs.Prelude.{◌≡◌, ◌⊎◌, Bool, true, false, IsTrue, IfSome, ℕ, List, Option, Some, None, is_some, Result, Ok, Err, length, nat_lt, ◌||◌}
+use Rattle.std.specs.Prelude.{◌≡◌, ◌⊎◌, Bool, true, false, IsTrue, IfSome, ℕ, List, [], Option, Some, None, is_some, unwrap_or, Result, Ok, Err, length, nat_lt, ◌||◌}
 use Rattle.script_lang.specs.Words.{Refusal, ByteNotAllowed, Syntax, OutOfMemory, IndexItem, Bor}
-use Rattle.script_lang.specs.declared.literal.ScalarLiteral.{ScalarLiteral}
 use Rattle.script_lang.specs.declared.literal.ScalarLiteral.TheVariants.{Bytes}
 use Rattle.script_lang.specs.declared.literal.Literal.{Literal}
 use Rattle.script_lang.specs.declared.literal.Literal.TheVariants.{Scalar, Record}
@@ -10,32 +9,25 @@ use Rattle.script_lang.specs.declared.command.Argument.{Argument}
 use Rattle.script_lang.specs.declared.command.Argument.TheVariants as argument
 use Rattle.script_lang.specs.declared.command.Command.{Command}
 use Rattle.script_lang.specs.declared.command.Viewing.{Viewing}
-use Rattle.script_lang.specs.declared.command.Viewing.TheVariants.{Whole, Indexed, Field, Transposed, Reshaped, Broadcast}
+use Rattle.script_lang.specs.declared.command.Viewing.TheVariants.{Whole, Indexed, Transposed}
 use Rattle.script_lang.specs.declared.command.Computation.{Computation}
-use Rattle.script_lang.specs.declared.command.Computation.TheVariants.{Duplicate, Cast, Combine, Transform, Reduce}
+use Rattle.script_lang.specs.declared.command.Computation.TheVariants.{Cast, Combine, Transform}
 use Rattle.script_lang.specs.declared.command.Value.{Value}
 use Rattle.script_lang.specs.declared.command.Value.TheVariants.{Make, View, Compute, Load}
 use Rattle.script_lang.specs.declared.command.Command.TheVariants.{Bind, Set, Update}
 use Rattle.script_lang.specs.Lines.{Line, silent, bad_byte, misspelt, asks}
 
 -- whether a part of a command takes memory of its own: bytes and record literals do, and an index of more than one item
-abbrev pub scalar_room : ScalarLiteral → Bool
-scalar_room (Bytes text) = true
-scalar_room _ = false
-
 abbrev pub literal_room : Literal → Bool
-literal_room (Scalar scalar) = scalar_room scalar
+literal_room (Scalar (Bytes text)) = true
 literal_room (Record inner) = true
+literal_room _ = false
 
 abbrev pub index_room : List (IndexItem (List ℕ)) → Bool
 index_room index = nat_lt 1 (length index)
 
-abbrev pub optional_index_room : Option (List (IndexItem (List ℕ))) → Bool
-optional_index_room None = false
-optional_index_room (Some index) = index_room index
-
 abbrev pub operand_room : Operand → Bool
-operand_room operand = optional_index_room operand.index
+operand_room operand = index_room (unwrap_or operand.index [])
 
 abbrev pub argument_room : Argument → Bool
 argument_room (argument.Operand operand) = operand_room operand
@@ -45,17 +37,14 @@ argument_room (argument.Literal literal) = literal_room literal
 abbrev pub viewing_room : Viewing → Bool
 viewing_room Whole = false
 viewing_room (Indexed index) = index_room index
-viewing_room (Field field) = true
 viewing_room (Transposed axes) = is_some axes
-viewing_room (Reshaped shape) = true
-viewing_room (Broadcast shape) = true
+viewing_room _ = true
 
 abbrev pub computation_room : Computation → Bool
-computation_room (Duplicate source order) = false
 computation_room (Cast source descr) = true
 computation_room (Combine operation left right) = operand_room left || argument_room right
 computation_room (Transform operation operand) = operand_room operand
-computation_room (Reduce reduction source axis keep) = false
+computation_room _ = false
 
 abbrev pub value_room : Value → Bool
 value_room (Make descr items) = true

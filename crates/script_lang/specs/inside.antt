@@ -1,3 +1,4 @@
 pub mod NodeCounts
 pub mod Classes
+pub mod Rooms
 pub mod ValueCodes

@@ -1,6 +1,6 @@
 //! The grammar of a line.
 ghost use Rattle.std.specs.Prelude.{◌≤◌, length};
-ghost use Rattle.script_lang.specs.Clauses.{value_at, bind_at, ask_at, verb_command_at, line_of, EachListAnyTurns, Takes, Says, value_room, parts_take_memory};
+ghost use Rattle.script_lang.specs.Clauses.{value_at, bind_at, verb_command_at, line_of, EachListAnyTurns, Takes, Says, value_room, parts_take_memory};
 
 mod computations;
 mod creations;
@@ -28,7 +28,7 @@ use elem_descr::{Name, Refusal};
 use std::alloc::Global;
 
 /// What follows `X =`. A word that is not a verb is the name of an array.
-#[tactic(auto, unfolding(crate::specs::Commands::value_at, crate::specs::Commands::load_at))]
+#[tactic(auto, unfolding(crate::specs::Commands::value_at))]
 fn value(alloc: Global, bytes: &[u8]) -> Result<(Value, &[u8]), Refusal>
     ensures { Takes value_room result (value_at bytes.now) }
 {
@@ -50,7 +50,7 @@ fn value(alloc: Global, bytes: &[u8]) -> Result<(Value, &[u8]), Refusal>
 /// `X = ..`, given the word `X` and what follows it.
 #[tactic(auto, unfolding(crate::specs::Commands::bind_at), using(crate::proofs::Commands::bind_room))]
 fn bind<'a>(alloc: Global, word: &[u8], bytes: &'a [u8]) -> Result<(Command, &'a [u8]), Refusal>
-    ensures { Takes parts_take_memory result (bind_at (word.now, bytes.now)) }
+    ensures { Takes parts_take_memory result (bind_at word.now bytes.now) }
 {
     if !names_unless_verb(word) {
         return Err(Refusal::Syntax);
@@ -67,7 +67,6 @@ fn bind<'a>(alloc: Global, word: &[u8], bytes: &'a [u8]) -> Result<(Command, &'a
 }
 
 /// The command that the verb begins.
-#[tactic(auto, unfolding(crate::specs::Commands::ask_at, crate::specs::Commands::delete_at, crate::specs::Commands::save_at))]
 fn verb_command(alloc: Global, verb: Verb, bytes: &[u8]) -> Result<(Command, &[u8]), Refusal>
     ensures { Takes parts_take_memory result (verb_command_at verb bytes.now) }
 {

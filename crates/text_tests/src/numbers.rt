@@ -28,14 +28,17 @@ fn packs(rt: &impl Abort, scalar: &Scalar, bytes: &[u8], value: i128)
     assert!(rt; &*written == bytes, "for {value}");
 }
 
-/// As Python's `struct.pack` packs them.
+/// As Python's `struct.pack` packs them, like those of the next two tests.
 #[test]
-fn packed(rt: HostRuntime) {
-    let rt = &rt;
-    packs(rt, &Scalar::Bool, &[1], 1);
-    packs(rt, &Scalar::Byte { signed: true }, &[0x80], -128);
-    packs(rt, &Scalar::Byte { signed: false }, &[0xc8], 200);
+fn packed_bytes(rt: HostRuntime) {
+    packs(&rt, &Scalar::Bool, &[1], 1);
+    packs(&rt, &Scalar::Byte { signed: true }, &[0x80], -128);
+    packs(&rt, &Scalar::Byte { signed: false }, &[0xc8], 200);
+}
 
+#[test]
+fn packed_low_byte_first(rt: HostRuntime) {
+    let rt = &rt;
     let little = Order::Little;
     packs(rt, &integer(true, Width::Two, little), &[0xfe, 0xff], -2);
     packs(
@@ -68,7 +71,11 @@ fn packed(rt: HostRuntime) {
         &[0xff; 8],
         i128::from(u64::MAX),
     );
+}
 
+#[test]
+fn packed_high_byte_first(rt: HostRuntime) {
+    let rt = &rt;
     let big = Order::Big;
     packs(rt, &integer(true, Width::Two, big), &[0xff, 0xfe], -2);
     packs(rt, &integer(false, Width::Two, big), &[0xab, 0xcd], 0xabcd);

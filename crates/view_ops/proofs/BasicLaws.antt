@@ -1,6 +1,6 @@
 -- The result that the definition gives at each exit of a basic index.
-use Rattle.std.proofs.Common.{◌≡◌, ◌⊎◌, inl, inr, Bool, Ok, Err, ℕ, ◌<◌, ◌≤◌, nat_le, true, false, List, All, map, length, ap, ◌∙◌, arith}
-use Rattle.view_ops.proofs.Words.{list_all, cases_lt, nat_tests, Refusal, OutOfMemory, TooManyAxes, TooManyIndices, ZeroStep, IndexOutOfRange, ◌>>=◌, check, Layout, IndexItem, max_axes, max_items, count, shape_of, shape_of-many, AxisPick, axes_taken, has_step, are_on_axes, picks, shape_picked, picked_view, basic, pick_shown, ArePicks, IsViewOf, GivesView}
+use Rattle.std.proofs.Common.{◌≡◌, ◌⊎◌, inl, inr, Bool, Result, Ok, Err, ℕ, ◌<◌, ◌≤◌, nat_le, true, false, List, All, map, length, refl, ap, ◌∙◌, arith}
+use Rattle.view_ops.proofs.Words.{list_all, cases_lt, nat_tests, Refusal, OutOfMemory, TooManyAxes, TooManyIndices, ZeroStep, IndexOutOfRange, ◌>>=◌, check, Layout, IndexItem, max_axes, max_items, count, shape_of, shape_of-many, AxisPick, axes_taken, has_step, are_on_axes, Pick, picked_shape, picked_index, picks, shape_picked, picked_view, basic, pick_shown, ArePicks, View, IsViewOf, GivesView}
 use Rattle.view_ops.proofs.PickViews.{shape_of_picks, leads_of_picks, shape_of-picks}
 use Rattle.view_ops.proofs.ViewLaws.{gives_refusal}
 
@@ -27,14 +27,24 @@ pub made-shape : (picks : List AxisPick) (made : List ℕ) → shape_picked (map
 unfolding shape_picked
 made-shape picks made is = from_check (nat_le (length (shape_of_picks picks)) max_axes) (shape_of_picks picks) made TooManyAxes is
 
+-- the view of picks that have this shape
+abbrev view_of : List Pick → List ℕ → Result View Refusal
+view_of some shape = Ok (record { shape = shape; leads = picked_index some })
+
+picked_view-shape : (some : List Pick) → picked_view some ≡ (shape_picked some >>= view_of some)
+unfolding picked_view shape_picked
+picked_view-shape some = by_check (nat_le (length (picked_shape some)) max_axes)
+  where
+    by_check : (few : Bool) → (check few TooManyAxes >>= λ _. view_of some (picked_shape some)) ≡ ((check few TooManyAxes >>= λ _. Ok (picked_shape some)) >>= view_of some)
+    by_check true = refl
+    by_check false = refl
+
 pub gives_picks : (old new : Layout) (picks : List AxisPick) (made : List ℕ) → shape_picked (map pick_shown picks) ≡ Ok made → IsViewOf old new (record { shape = shape_of_picks picks; leads = leads_of_picks picks }) → GivesView old (Ok new) (picked_view (map pick_shown picks))
-unfolding picked_view
-gives_picks old new picks made there view = rw (there ∙ ap Ok (made-shape picks made there)) view
+gives_picks old new picks made there view = rw (picked_view-shape (map pick_shown picks), there ∙ ap Ok (made-shape picks made there)) view
 
 pub gives_no_shape : (old : Layout) (picks : List AxisPick) (e : Refusal) → (e ≡ OutOfMemory) ⊎ (shape_picked (map pick_shown picks) ≡ Err e) → GivesView old (Err e) (picked_view (map pick_shown picks))
-unfolding picked_view
 gives_no_shape old picks e (inl memory) = gives_refusal old (picked_view (map pick_shown picks)) e (inl memory)
-gives_no_shape old picks e (inr there) = gives_refusal old (picked_view (map pick_shown picks)) e (inr (rw there))
+gives_no_shape old picks e (inr there) = gives_refusal old (picked_view (map pick_shown picks)) e (inr (rw (picked_view-shape (map pick_shown picks), there)))
 
 -- ---- a basic index
 

@@ -1,6 +1,6 @@
 -- Laws of the axes that the items of an index take, and of what they pick.
 use Rattle.std.proofs.Common.{◌≡◌, ℕ, zero, suc, ◌+◌, ◌-◌, ◌<◌, ◌≤◌, Bool, true, ◌&&◌, ℤ, pos, ◌+ℤ◌, ◌*ℤ◌, List, [], ◌∷◌, ◌++◌, map, length, get_or, take, drop, slice_range, refl, sym, ap, ◌∙◌, arith, length-drop, append_assoc, Option}
-use Rattle.view_ops.proofs.Words.{ints, drop-drop, drop_more, append-nil, map-append, and_parts, is_ok, drop_split, list_all, flat_map, range_with_len, IndexItem, Integer, Slice, is_basic, natural, AxisPick, AtAxis, AlongAxis, NewAxis, Progression, slice_indices, axes_taken, width, placed, has_step, is_on_axis, are_on_axes, whole, picks_of, picks, pick_shown, ArePicks, AddsPicks}
+use Rattle.view_ops.proofs.Words.{ints, drop-drop, drop_more, map-append, and_parts, is_ok, drop_split, list_all, flat_map, range_with_len, IndexItem, Integer, Slice, is_basic, natural, AxisPick, AtAxis, AlongAxis, NewAxis, Progression, slice_indices, axes_taken, width, placed, has_step, is_on_axis, are_on_axes, whole, picks_of, picks, pick_shown, ArePicks, AddsPicks}
 
 -- ---- the axes of items
 

@@ -1,6 +1,6 @@
 -- The layout of the picks is a view.
-use Rattle.std.proofs.Common.{◌≡◌, inl, inr, Ok, ℕ, suc, ◌+◌, ◌*◌, ◌<◌, ◌≤◌, nat_lt, nat_le, true, ℤ, pos, neg_ℤ, ◌+ℤ◌, ◌*ℤ◌, ◌≤ℤ◌, List, [], ◌∷◌, ◌++◌, All, map, length, get_or, take, drop, refl, sym, ap, ◌∙◌, arith, mul-le-mul_left, append_assoc}
-use Rattle.view_ops.proofs.Words.{list_all, flat_map, mul-le-mul_right, cases_Bool, cases_lt, nat_tests, ints, drop_more, drop_all, take_more, append-nil, map-append, flat_map-append, zero-*ℤ, +ℤ_assoc, +ℤ_idl, +ℤ_idr, Layout, count, IsIndex, shape_of, max_axes, max_items, max_bytes, address_at, LieWithin, address, offsets, rank-lt, factors_pos, shape_of-ok, dot-nil, one-step, dot, AxisPick, AtAxis, AlongAxis, NewAxis, Progression, run_number, run_numbers, IsRunWithin, axis_of, picked_shape, picked_index, pick_shown, ArePicks, axes_of_pick, run_stride, stride_of, picked_strides, IsSmallStep, IsSmallPick, HaveSmallSteps, first_of, view_through, IsViewOf, KeepsNested, ShowsThrough, length-run, number_at, first_number, LieWithin-view, inside-view, offsets-view}
+use Rattle.std.proofs.Common.{◌≡◌, inl, inr, Ok, ℕ, suc, ◌+◌, ◌*◌, ◌<◌, ◌≤◌, nat_lt, nat_le, true, ℤ, pos, neg_ℤ, ◌+ℤ◌, ◌*ℤ◌, ◌≤ℤ◌, List, [], ◌∷◌, ◌++◌, All, map, length, get_or, drop, refl, sym, ap, ◌∙◌, arith, mul-le-mul_left, append_assoc}
+use Rattle.view_ops.proofs.Words.{list_all, flat_map, mul-le-mul_right, cases_Bool, cases_lt, nat_tests, ints, drop_more, drop_all, zero-*ℤ, +ℤ_assoc, +ℤ_idl, +ℤ_idr, Layout, count, IsIndex, shape_of, max_axes, max_items, max_bytes, address_at, LieWithin, address, offsets, rank-lt, factors_pos, shape_of-ok, dot-nil, one-step, dot, AxisPick, AtAxis, AlongAxis, NewAxis, Progression, run_number, run_numbers, IsRunWithin, picked_shape, picked_index, pick_shown, ArePicks, axes_of_pick, run_stride, stride_of, picked_strides, IsSmallStep, IsSmallPick, HaveSmallSteps, first_of, view_through, IsViewOf, KeepsNested, ShowsThrough, length-run, number_at, first_number, LieWithin-view, inside-view, offsets-view}
 use Rattle.view_ops.proofs.ViewLaws.{IsNested-view}
 use Rattle.view_ops.proofs.StrideLaws.{stride_along, run_number-is, run-one}
 

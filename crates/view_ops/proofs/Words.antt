@@ -15,15 +15,15 @@ pub use Rattle.std.specs.Int.{div_ceil, w128}
 pub use Rattle.std.specs.List.{AllByRecursion}
 unfoldable pub use Rattle.std.specs.List.{IsDistinct}
 pub use Rattle.std.specs.Result.{is_ok}
-pub use Rattle.view_ops.specs.Basics.{are_on_axes, axes_taken, axis_of, has_step, is_on_axis, picked_index, picked_shape, picks, picks_of, placed, whole, width}
-unfoldable pub use Rattle.view_ops.specs.Basics.{basic, picked_view, shape_picked}
+pub use Rattle.view_ops.specs.Basics.{axes_taken, axis_of, Pick, has_step, is_on_axis, picked_index, picked_shape, picks, picks_of, placed, whole, width}
+unfoldable pub use Rattle.view_ops.specs.Basics.{basic, picked_view}
 pub use Rattle.view_ops.specs.FieldViews.{GivesField}
 pub use Rattle.view_ops.specs.PickLaws.{first_number, length-run, number_at}
 pub use Rattle.view_ops.specs.Picks.{first_of}
 pub use Rattle.view_ops.specs.Shows.{IsView, ShowsThrough}
 pub use Rattle.view_ops.specs.Slices.{IsRunWithin, clamped, from_front, highest, is_place, lowest, run_number, run_numbers, start_of, stop_of}
 unfoldable pub use Rattle.view_ops.specs.Slices.{slice_indices}
-pub use Rattle.view_ops.specs.Transposes.{are_distinct, put_at, transposed_index, transposed_shape}
+pub use Rattle.view_ops.specs.Transposes.{are_distinct, put_at}
 unfoldable pub use Rattle.view_ops.specs.Transposes.{axes_of, transposed}
 pub use Rattle.view_ops.specs.ViewLaws.{LieWithin-view, inside-view, offsets-view}
 pub use Rattle.view_ops.specs.Views.{GivesView, IsViewOf, KeepsNested, View, view_through}
@@ -32,6 +32,7 @@ unfoldable pub use Rattle.view_ops.specs.Words.{stepped}
 pub use Rattle.view_ops.specs.declared.picks.AxisPick.{AxisPick}
 pub use Rattle.view_ops.specs.declared.picks.AxisPick.TheVariants.{Along as AlongAxis, At, At as AtAxis, New as NewAxis}
 pub use Rattle.view_ops.specs.declared.slice.Progression.{Progression}
-pub use Rattle.view_ops.specs.inside.Axes.{AreAllAxes, AreAxes}
-pub use Rattle.view_ops.specs.inside.Picks.{AddsPicks, ArePicks, HaveSmallSteps, IsSmallPick, IsSmallStep, axes_of_pick, pick_shown, picked_strides, run_stride, stride_of}
+pub use Rattle.view_ops.specs.inside.Axes.{AreAllAxes, AreAxes, transposed_index, transposed_shape}
+pub use Rattle.view_ops.specs.inside.Picks.{AddsPicks, ArePicks, HaveSmallSteps, IsSmallPick, IsSmallStep, are_on_axes, axes_of_pick, pick_shown, picked_strides, run_stride, stride_of}
+unfoldable pub use Rattle.view_ops.specs.inside.Picks.{shape_picked}
 pub use lib.IntN.{+ℤ_assoc, +ℤ_idl, negsuc-*ℤ-negsuc, negsuc-*ℤ-pos, pos-*ℤ-negsuc, zero-*ℤ}

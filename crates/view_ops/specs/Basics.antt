@@ -1,6 +1,6 @@
 -- Basic indexes, as in NumPy: integers, slices, `...` and new axes.
-use Rattle.std.specs.Prelude.{ℕ, ◌-◌, nat_le, Bool, true, false, not, pos, unwrap_or, List, [], ◌∷◌, map, take, drop, length, count_by, slice_index, Result, Ok, Err}
-use Rattle.view_ops.specs.Words.{int_eq, list_all, flat_map, range_with_len, Refusal, TooManyAxes, TooManyIndices, IndexOutOfRange, ZeroStep, ◌>>=◌, check, IndexItem, Integer, Slice, Ellipsis, NewAxis, max_axes, natural}
+use Rattle.std.specs.Prelude.{ℕ, ◌-◌, nat_le, Bool, true, false, not, pos, unwrap_or, List, [], ◌∷◌, map, take, drop, length, count_by, slice_index, Result, Ok}
+use Rattle.view_ops.specs.Words.{int_eq, list_all, flat_map, range_with_len, result_unwrap_or, Refusal, TooManyAxes, TooManyIndices, IndexOutOfRange, ZeroStep, ◌>>=◌, check, IndexItem, Integer, Slice, Ellipsis, NewAxis, max_axes, natural}
 use Rattle.view_ops.specs.Slices.{from_front, is_place, slice_indices}
 use Rattle.view_ops.specs.Views.{View}
 
@@ -42,9 +42,6 @@ abbrev pub is_on_axis : {A : Type 0} → List ℕ → IndexItem A → Bool
 is_on_axis (n ∷ axes) (Integer at) = is_place n at
 is_on_axis _ _ = true
 
-abbrev pub are_on_axes : {A : Type 0} → List ℕ → List (IndexItem A) → Bool
-are_on_axes shape items = list_all (λ p. is_on_axis p.axes p.item) (placed shape items)
-
 -- ---- picks
 
 -- what is picked of an axis: one number (the axis is dropped), or these numbers in this order; or else a new axis of
@@ -57,16 +54,12 @@ pub data Pick : Type 0 where
 abbrev pub whole : ℕ → Pick
 whole n = Along (range_with_len 0 n)
 
-abbrev pub numbers_of : Result (List ℕ) Refusal → List ℕ
-numbers_of (Ok numbers) = numbers
-numbers_of (Err refusal) = []
-
--- what an item picks from the axes that it takes
+-- what an item picks from the axes that it takes; the step of a slice is not 0 here
 abbrev pub picks_of : {A : Type 0} → List ℕ → IndexItem A → List Pick
 picks_of axes Ellipsis = map whole axes
 picks_of axes NewAxis = New ∷ []
 picks_of (n ∷ axes) (Integer at) = At (natural (from_front n at)) ∷ []
-picks_of (n ∷ axes) (Slice start stop step) = Along (numbers_of (slice_indices n start stop step)) ∷ []
+picks_of (n ∷ axes) (Slice start stop step) = Along (result_unwrap_or (slice_indices n start stop step) []) ∷ []
 picks_of _ _ = []
 
 abbrev pub picks : {A : Type 0} → List ℕ → List (IndexItem A) → List Pick
@@ -89,22 +82,16 @@ picked_index (Along numbers ∷ picks) (k ∷ index) = slice_index numbers k ∷
 picked_index (New ∷ picks) (k ∷ index) = picked_index picks index
 picked_index _ _ = []
 
--- the shape of the result, or the refusal if it has too many axes
-unfoldable pub shape_picked : List Pick → Result (List ℕ) Refusal
-shape_picked picks = do
-  _ ← check (nat_le (length (picked_shape picks)) max_axes) TooManyAxes
-  Ok (picked_shape picks)
-
--- the view that picks make, or the refusal
+-- the view that picks make, or the refusal if it has too many axes
 unfoldable pub picked_view : List Pick → Result View Refusal
 picked_view picks = do
-  shape ← shape_picked picks
-  Ok (record { shape = shape; leads = picked_index picks })
+  _ ← check (nat_le (length (picked_shape picks)) max_axes) TooManyAxes
+  Ok (record { shape = picked_shape picks; leads = picked_index picks })
 
 -- the view that a basic index makes, or the first refusal that applies
 unfoldable pub basic : {A : Type 0} → List ℕ → List (IndexItem A) → Result View Refusal
 basic shape items = do
   _ ← check (nat_le (axes_taken items) (length shape)) TooManyIndices
   _ ← check (list_all has_step items) ZeroStep
-  _ ← check (are_on_axes shape items) IndexOutOfRange
+  _ ← check (list_all (λ p. is_on_axis p.axes p.item) (placed shape items)) IndexOutOfRange
   picked_view (picks shape items)

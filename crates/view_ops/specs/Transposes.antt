@@ -19,21 +19,14 @@ axes_of rank (Some named) = do
   _ ← check (are_distinct axes) BadAxis
   Ok axes
 
--- the shape of the result: axis k has the length of the axis named at position k
-abbrev pub transposed_shape : List ℕ → List ℕ → List ℕ
-transposed_shape axes shape = map (λ axis. slice_index shape axis) axes
-
 -- the list `over` with each number written at the position of its axis
 abbrev pub put_at : List ℕ → List ℕ → List ℕ → List ℕ
 put_at (axis ∷ axes) (number ∷ numbers) over = slice_set (put_at axes numbers over) axis number
 put_at _ _ over = over
 
--- the index of the old array to which an index of the result leads: number k goes to the axis named at position k
-abbrev pub transposed_index : List ℕ → List ℕ → List ℕ
-transposed_index axes index = put_at axes index (replicate (length axes) 0)
-
--- the view with its axes in another order, or the refusal
+-- The view with its axes in another order, or the refusal. Axis k has the length of the axis named at position k, and
+-- number k of an index goes to that axis.
 unfoldable pub transposed : List ℕ → Option (List ℤ) → Result View Refusal
 transposed shape named = do
   axes ← axes_of (length shape) named
-  Ok (record { shape = transposed_shape axes shape; leads = transposed_index axes })
+  Ok (record { shape = map (λ axis. slice_index shape axis) axes; leads = λ index. put_at axes index (replicate (length axes) 0) })

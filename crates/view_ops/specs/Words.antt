@@ -31,4 +31,5 @@ pub use Rattle.std.proofs.lemmas.List.FromFn.{get_or-map-range_with_len, length-
 pub use Rattle.std.specs.Int.{int_max, int_min}
 pub use Rattle.std.specs.List.{flat_map, list_all, list_any, range_with_len}
 pub use Rattle.std.specs.Ordering.{int_eq}
+pub use Rattle.std.specs.Result.{result_unwrap_or}
 pub use lib.IntN.{*ℤ-zero, +ℤ_idr}

@@ -34,6 +34,10 @@ abbrev pub is_named : List ℕ → Bool
 is_named [] = false
 is_named (b ∷ rest) = is_colon b
 
+abbrev pub begins_with_digit : List ℕ → Bool
+begins_with_digit [] = false
+begins_with_digit (b ∷ rest) = is_ascii_digit b
+
 -- the text begins with an opening brace
 abbrev pub is_opened : List ℕ → Bool
 is_opened [] = false

@@ -1,5 +1,5 @@
 -- Byte strings that are compared as numbers.
-use Rattle.std.specs.Prelude.{◌≡◌, ◌≤◌, ◌⊎◌, ℕ, Bool, false, List, All}
+use Rattle.std.specs.Prelude.{◌≡◌, ◌≤◌, ◌⊎◌, ℕ, Bool, false, List, All, length}
 use Rattle.elementwise.specs.Words.{Big, Scalar, Byte, Int, width_size, without_nuls, item_at, Items, offsets}
 use Rattle.elementwise.specs.Comparisons.{text_below}
 
@@ -19,4 +19,4 @@ AreInOrder b x y = (b.0 ≡ text_below (without_nuls x) (without_nuls y)) × (b.
 
 -- byte strings of `width` bytes lose only NULs at the end if they are cut to `n` bytes
 abbrev pub CanCut : Items → ℕ → ℕ → Type 0
-CanCut i width n = (n ≤ width) × All (λ offset. without_nuls (item_at offset n i.block.now) ≡ without_nuls (item_at offset width i.block.now)) (offsets i.layout.now)
+CanCut i width n = (n ≤ width) × All (λ offset. length (without_nuls (item_at offset width i.block.now)) ≤ n) (offsets i.layout.now)

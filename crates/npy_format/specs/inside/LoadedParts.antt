@@ -1,8 +1,12 @@
 -- What is loaded from a file, given the text of its header and the bytes after it.
-use Rattle.std.specs.Prelude.{ℕ, List, length, nat_le, Result, Ok}
-use Rattle.npy_format.specs.Words.{Refusal, TooLarge, ◌>>=◌, check, max_bytes}
+use Rattle.std.specs.Prelude.{ℕ, Bool, List, length, take, nat_le, Result, Ok}
+use Rattle.npy_format.specs.Words.{bytes_eq, Refusal, TooLarge, ◌>>=◌, check, max_bytes}
 use Rattle.npy_format.specs.Headers.{header}
-use Rattle.npy_format.specs.Files.{Loaded, split_front, data_size}
+use Rattle.npy_format.specs.Files.{Loaded, magic, split_front, data_size}
+
+-- whether a file begins with the magic bytes; a file that is too short for them does not
+abbrev pub begins_well : List ℕ → Bool
+begins_well file = bytes_eq (take 6 file) magic
 
 unfoldable pub load_behind : List ℕ → List ℕ → Result Loaded Refusal
 load_behind text behind = do

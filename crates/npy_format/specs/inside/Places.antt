@@ -1,11 +1,14 @@
 -- Tokens of a header that begin with some of its values.
-use Rattle.std.specs.Prelude.{◌≡◌, ℕ, List, [], ◌∷◌, Option, Some, None, Result, Ok, Err, MatchResult}
+use Rattle.std.specs.Prelude.{◌≡◌, ℕ, Bool, List, [], ◌∷◌, Option, Some, None, Result, Ok, Err, MatchResult}
 use Rattle.npy_format.specs.Words.{Bor, Refusal, ◌>>=◌, shape_of}
 use Rattle.npy_format.specs.Values.{Text, Round}
 use Rattle.npy_format.specs.Listed.{Literal, Plain, Row, Pair, value_literals}
 use Rattle.npy_format.specs.Tokens.{Token, tokens}
 use Rattle.npy_format.specs.Literals.{Read, entries_in, pair_in, literal_in}
-use Rattle.npy_format.specs.Headers.{max_value_depth, lengths_of}
+use Rattle.npy_format.specs.Headers.{max_value_depth, is_string, lengths_of}
+
+abbrev pub is_key : List ℕ → Pair → Bool
+is_key key pair = is_string key pair.key
 
 abbrev pub value_in : List Token → Read Literal
 value_in = literal_in max_value_depth

@@ -1,10 +1,14 @@
 -- Tokens as the code reads them from a text.
-use Rattle.std.specs.Prelude.{ℕ, List, ◌∷◌, Option, Some, None, Bool, false, Result, Ok, Err}
+use Rattle.std.specs.Prelude.{ℕ, ◌||◌, nat_eq, List, ◌∷◌, Option, Some, None, Bool, false, Result, Ok, Err}
 use Rattle.npy_format.specs.Words.{bytes_eq, Refusal, BadHeader, DescriptorLeftOut, ◌>>=◌, marked, value_of, Partial, widened}
 use Rattle.npy_format.specs.RecordLists.{pad_kind}
 use Rattle.npy_format.specs.declared.token.Token.{Token as Scanned}
 use Rattle.npy_format.specs.declared.token.Token.TheVariants as scanned
 use Rattle.npy_format.specs.Tokens.{Token, Text, Integer, Truth, Nothing, Symbol, Stray}
+
+-- an apostrophe or a quotation mark
+abbrev pub is_quote : ℕ → Bool
+is_quote b = nat_eq b 39 || nat_eq b 34
 
 abbrev pub token_of : Scanned → Token
 token_of (scanned.Text bytes) = Text bytes.now

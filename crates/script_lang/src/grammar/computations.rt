@@ -1,6 +1,6 @@
 //! What follows `X =` and computes: `copy`, `cast`, operations and reductions.
 ghost use Rattle.std.specs.Prelude.{◌≡◌};
-ghost use Rattle.script_lang.specs.Clauses.{copy_at, cast_at, combine_at, transform_at, reduce_at, compute_at, Takes, value_room};
+ghost use Rattle.script_lang.specs.Clauses.{Compute, computation_at, one_part, Takes, value_room};
 
 use crate::command::{Computation, Value};
 use crate::grammar::descriptors::descr;
@@ -14,9 +14,9 @@ use elem_descr::Refusal;
 use std::alloc::Global;
 
 /// The computation that the verb begins.
-#[tactic(auto, unfolding(crate::specs::Commands::copy_at, crate::specs::Commands::cast_at, crate::specs::Commands::combine_at, crate::specs::Commands::transform_at, crate::specs::Commands::reduce_at, crate::specs::Commands::compute_at), using(crate::proofs::Commands::cast_room, crate::proofs::Commands::left_room, crate::proofs::Commands::right_room, crate::proofs::Commands::transform_room, crate::proofs::Commands::compute_room))]
+#[tactic(auto, using(crate::proofs::Commands::cast_room, crate::proofs::Commands::left_room, crate::proofs::Commands::right_room, crate::proofs::Commands::transform_room))]
 pub fn compute(alloc: Global, verb: ComputeVerb, bytes: &[u8]) -> Result<(Value, &[u8]), Refusal>
-    ensures { Takes value_room result (compute_at verb bytes.now) }
+    ensures { Takes value_room result (one_part Compute (computation_at verb) bytes.now) }
 {
     match verb {
         ComputeVerb::Duplicate => {

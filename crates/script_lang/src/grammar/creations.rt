@@ -1,6 +1,6 @@
 //! What follows `X =` and makes an array: `zeros`, `full`, `arange` and `array`.
 ghost use Rattle.std.specs.Prelude.{◌≡◌, true};
-ghost use Rattle.script_lang.specs.Clauses.{zeros_at, full_at, arange_at, new_array_at, new_items_at, make_at, Takes, value_room};
+ghost use Rattle.script_lang.specs.Clauses.{new_items_at, make_at, Takes, value_room};
 
 use crate::command::{NewItems, Value};
 use crate::grammar::descriptors::descr;
@@ -12,7 +12,7 @@ use elem_descr::Refusal;
 use std::alloc::Global;
 
 /// What the items are, after the descriptor.
-#[tactic(auto, unfolding(crate::specs::Commands::zeros_at, crate::specs::Commands::full_at, crate::specs::Commands::arange_at, crate::specs::Commands::new_array_at, crate::specs::Literals::literals_at), using(crate::proofs::Lists::any_list, crate::proofs::Shorter::length_shorter))]
+#[tactic(auto, unfolding(crate::specs::Literals::literals_at), using(crate::proofs::Lists::any_list, crate::proofs::Shorter::length_shorter))]
 fn new_items(alloc: Global, verb: MakeVerb, bytes: &[u8]) -> Result<(NewItems, &[u8]), Refusal>
     ensures { Takes (λ _. true) result (new_items_at verb bytes.now) }
 {

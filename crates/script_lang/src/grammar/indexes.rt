@@ -1,6 +1,6 @@
 //! Index lists, and operands with an index list.
 ghost use Rattle.std.specs.Prelude.{◌≤◌, length};
-ghost use Rattle.script_lang.specs.Clauses.{by_rule, one_or_more, slice_at, ellipsis_at, index_item_at, index_at, bracket_at, optional_index_at, operand_named, operand_at, argument_at, Scans, Takes, index_room, optional_index_room, operand_room, argument_room};
+ghost use Rattle.script_lang.specs.Clauses.{by_rule, one_or_more, one_part, slice_at, ellipsis_at, index_item_at, index_at, bracket_at, optional_index_at, operand_named, operand_at, argument_at, Scans, Takes, index_room, optional_index_room, operand_room, argument_room};
 
 use crate::command::{Argument, Index, Operand};
 use crate::grammar::literals::literal;
@@ -39,7 +39,6 @@ fn ellipsis(bytes: &[u8]) -> Option<&[u8]>
 fn item(alloc: Global, bytes: &[u8]) -> Option<(IndexItem<Name>, &[u8])>
     ensures { Scans (λ r. (r.0, r.1.now)) result (index_item_at bytes.now) }
 {
-    let bytes = unspaced(bytes);
     if let Some(found) = slice(bytes) {
         return Some(found);
     }
@@ -113,14 +112,14 @@ pub fn optional_index(alloc: Global, bytes: &[u8]) -> Result<(Option<Index>, &[u
 }
 
 /// The operand of this name, given what follows the name.
-#[tactic(auto, unfolding(crate::specs::Indexes::operand_named), using(crate::proofs::Rooms::indexed_room))]
+#[tactic(auto, using(crate::proofs::Rooms::indexed_room))]
 fn operand_named<'a>(
     alloc: Global,
     name: &[u8],
     bytes: &'a [u8],
 ) -> Result<(Operand, &'a [u8]), Refusal>
     requires { length name.now ≤ 32 }
-    ensures { Takes operand_room result (operand_named (name.now, bytes.now)) }
+    ensures { Takes operand_room result (one_part (operand_named name.now) optional_index_at bytes.now) }
 {
     let (index, rest) = optional_index(alloc, bytes)?;
     let name = Name::from_slice(alloc, name);
@@ -138,12 +137,11 @@ pub fn operand(alloc: Global, bytes: &[u8]) -> Result<(Operand, &[u8]), Refusal>
 
 /// The next operand or literal, and what follows it. A name begins an operand, unless it begins a
 /// byte string.
-#[tactic(auto, unfolding(crate::specs::Indexes::bare_name_at, crate::specs::Indexes::argument_at), using(crate::proofs::Rooms::operand_argument_room, crate::proofs::Rooms::literal_argument_room))]
+#[tactic(auto, unfolding(crate::specs::Indexes::argument_at, crate::specs::Indexes::operand_at), using(crate::proofs::Rooms::operand_argument_room, crate::proofs::Rooms::literal_argument_room))]
 pub fn argument(alloc: Global, bytes: &[u8]) -> Result<(Argument, &[u8]), Refusal>
     ensures { Takes argument_room result (argument_at bytes.now) }
 {
-    let bytes = unspaced(bytes);
-    if bytes_mark(bytes).is_none()
+    if bytes_mark(unspaced(bytes)).is_none()
         && let Some((name, rest)) = name(bytes)
     {
         let (operand, rest) = operand_named(alloc, name, rest)?;

@@ -1,9 +1,9 @@
 //! Literals.
 ghost use Rattle.std.specs.Prelude.{◌<◌, true, IfSome};
-ghost use Rattle.script_lang.specs.Clauses.{byte_at, by_rule, none_or_more, row, hex_value, hex_digit_at, escape_at, text_byte_at, byte_text_at, boolean_at, bytes_at, scalar_at, record_at, literal_within, literal_at, line_end_at, literals_of, Scans, Reads, Takes, scalar_room, literal_room};
+ghost use Rattle.script_lang.specs.Clauses.{byte_at, by_rule, none_or_more, row, hex_value, hex_digit_at, escape_at, text_byte_at, byte_text_at, scalar_at, record_at, literal_within, literal_at, line_end_at, literals_of, Scans, Reads, Takes, scalar_room, literal_room};
 
 use crate::grammar::numbers::integer;
-use crate::grammar::tokens::{byte, bytes_mark, is_at_end, symbol, unspaced, word};
+use crate::grammar::tokens::{byte, bytes_mark, is_at_end, keyword, symbol, unspaced};
 use crate::literal::{ByteText, Literal, Literals, RecordLiteral, ScalarLiteral};
 use elem_descr::Refusal;
 use std::alloc::Global;
@@ -60,7 +60,7 @@ fn byte_row(alloc: Global, bytes: &[u8]) -> Result<(ByteText, &[u8]), Refusal>
 }
 
 /// The scalar literal at the front, and what follows it.
-#[tactic(auto, unfolding(crate::specs::Literals::scalar_at, crate::specs::Literals::bytes_at, crate::specs::Literals::byte_text_at, crate::specs::Literals::boolean_at), using(crate::proofs::Rooms::bytes_room))]
+#[tactic(auto, unfolding(crate::specs::Literals::scalar_at, crate::specs::Literals::byte_text_at), using(crate::proofs::Rooms::bytes_room))]
 fn scalar(alloc: Global, bytes: &[u8]) -> Result<(ScalarLiteral, &[u8]), Refusal>
     ensures { Takes scalar_room result (scalar_at bytes.now) }
 {
@@ -71,11 +71,11 @@ fn scalar(alloc: Global, bytes: &[u8]) -> Result<(ScalarLiteral, &[u8]), Refusal
     if let Some((n, rest)) = integer(bytes) {
         return Ok((ScalarLiteral::Integer(n), rest));
     }
-    match word(bytes) {
-        Some((b"True", rest)) => Ok((ScalarLiteral::Boolean(true), rest)),
-        Some((b"False", rest)) => Ok((ScalarLiteral::Boolean(false), rest)),
-        _ => Err(Refusal::Syntax),
+    if let Some(rest) = keyword(b"True", bytes) {
+        return Ok((ScalarLiteral::Boolean(true), rest));
     }
+    let rest = keyword(b"False", bytes).ok_or(Refusal::Syntax)?;
+    Ok((ScalarLiteral::Boolean(false), rest))
 }
 
 /// Literals of at most this depth, separated by commas, up to the closing parenthesis, and what

@@ -1,5 +1,5 @@
 //! Numbers without a sign, integers, and the lists of numbers between parentheses.
-ghost use Rattle.std.specs.Prelude.{IfSome, List, Option, length, true, ℕ, ◌<◌, ◌^◌, ◌≡◌, ◌≤◌};
+ghost use Rattle.std.specs.Prelude.{IfSome, List, Option, Some, length, true, ℕ, ◌<◌, ◌^◌, ◌≡◌, ◌≤◌};
 ghost use Rattle.script_lang.specs.Clauses.{value_of, numbers_at, Shortens, Takes, Scans, integer_at, is_digit, length_at, number_at, optional_integer_at, list_all};
 
 use crate::grammar::tokens::{Class, byte, front, is_parted, symbol, unspaced};
@@ -38,7 +38,7 @@ fn number(bytes: &[u8]) -> Option<(u128, &[u8])>
 }
 
 /// The next integer, with any blanks before it, and what follows it.
-#[tactic(auto, unfolding(crate::specs::Tokens::integer_at), using(crate::proofs::Spelling::signed_plain))]
+#[tactic(auto, unfolding(crate::specs::Tokens::integer_at, crate::specs::Tokens::length_at))]
 pub fn integer(bytes: &[u8]) -> Option<(i128, &[u8])>
     ensures { Scans (λ n. (n.0, n.1.now)) result (integer_at bytes.now) }
 {
@@ -56,9 +56,9 @@ pub fn integer(bytes: &[u8]) -> Option<(i128, &[u8])>
 }
 
 /// The next integer, if any, and what follows it.
-#[tactic(auto, unfolding(crate::specs::Tokens::optional_integer_at))]
+#[tactic(auto, unfolding(crate::specs::Indexes::optional_integer_at))]
 pub fn optional_integer(bytes: &[u8]) -> (Option<i128>, &[u8])
-    ensures { (result.0, result.1.now) ≡ optional_integer_at bytes.now }
+    ensures { Some (result.0, result.1.now) ≡ optional_integer_at bytes.now }
 {
     match integer(bytes) {
         Some((n, rest)) => (Some(n), rest),

@@ -1,6 +1,6 @@
 //! The commands that bind no name.
 ghost use Rattle.std.specs.Prelude.{◌≡◌};
-ghost use Rattle.script_lang.specs.Clauses.{asked_at, question_at, set_at, update_at, Takes, Scans, parts_take_memory};
+ghost use Rattle.script_lang.specs.Clauses.{question_at, set_at, update_at, Takes, Scans, parts_take_memory};
 
 use crate::command::{Command, Question};
 use crate::grammar::indexes::{argument, bracket};
@@ -58,7 +58,6 @@ pub fn update(alloc: Global, bytes: &[u8]) -> Result<(Command, &[u8]), Refusal>
 }
 
 /// What the verb asks for.
-#[tactic(auto, unfolding(crate::specs::Commands::question_at, crate::specs::Commands::asked_at, crate::specs::Commands::shares_at))]
 pub fn question(alloc: Global, verb: AskVerb, bytes: &[u8]) -> Option<(Question, &[u8])>
     ensures { Scans (λ r. (r.0, r.1.now)) result (question_at verb bytes.now) }
 {

@@ -1,6 +1,6 @@
 //! Classes of bytes; blanks, symbols and words.
-ghost use Rattle.std.specs.Prelude.{is_some, length, true, ◌≡◌, ◌≤◌};
-ghost use Rattle.script_lang.specs.Clauses.{is_allowed, Scans, at_end, byte_at, bytes_mark_at, flag_at, front_at, is_blank, is_name_byte, is_name_start, is_parted, keyword_at, symbol_at, unspaced, word_at, is_in, list_all, prefix_len, bytes_eq};
+ghost use Rattle.std.specs.Prelude.{Some, length, true, ◌≡◌, ◌≤◌};
+ghost use Rattle.script_lang.specs.Clauses.{is_allowed, Scans, is_at_end, byte_at, bytes_mark_at, flag_at, front_at, is_blank, is_name_byte, is_name_start, is_parted, keyword_at, symbol_at, unspaced, word_at, is_in, list_all, prefix_len, bytes_eq};
 
 #[derive(Clone, Copy)]
 pub enum Class {
@@ -165,7 +165,7 @@ pub fn keyword<'a>(keyword: &[u8], bytes: &'a [u8]) -> Option<&'a [u8]>
 /// Whether this word comes next, and if so, what follows it.
 #[tactic(auto, unfolding(crate::specs::Tokens::flag_at))]
 pub fn flag<'a>(word: &[u8], bytes: &'a [u8]) -> (bool, &'a [u8])
-    ensures { (result.0, result.1.now) ≡ flag_at word.now bytes.now }
+    ensures { Some (result.0, result.1.now) ≡ flag_at word.now bytes.now }
 {
     match keyword(word, bytes) {
         Some(rest) => (true, rest),
@@ -175,7 +175,7 @@ pub fn flag<'a>(word: &[u8], bytes: &'a [u8]) -> (bool, &'a [u8])
 
 /// Whether only blanks remain.
 pub fn is_at_end(bytes: &[u8]) -> bool
-    ensures { result ≡ is_some (at_end bytes.now) }
+    ensures { result ≡ is_at_end bytes.now }
 {
     unspaced(bytes).is_empty()
 }

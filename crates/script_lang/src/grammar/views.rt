@@ -19,7 +19,7 @@ pub fn plain_view<'a>(
     word: &[u8],
     bytes: &'a [u8],
 ) -> Result<(Value, &'a [u8]), Refusal>
-    ensures { Takes value_room result (plain_view_at (word.now, bytes.now)) }
+    ensures { Takes value_room result (plain_view_at word.now bytes.now) }
 {
     if !names_unless_verb(word) {
         return Err(Refusal::Syntax);
@@ -34,7 +34,7 @@ pub fn plain_view<'a>(
 }
 
 /// How the items are viewed, after the name.
-#[tactic(auto, unfolding(crate::specs::Commands::field_name_at, crate::specs::Commands::transpose_at, crate::specs::Commands::reshape_at, crate::specs::Commands::broadcast_at), using(crate::proofs::Commands::field_room, crate::proofs::Commands::transpose_room, crate::proofs::Commands::reshape_room, crate::proofs::Commands::broadcast_room, crate::proofs::Shorter::length_shorter, crate::proofs::Shorter::integer_shorter))]
+#[tactic(auto, unfolding(crate::specs::Commands::transpose_at), using(crate::proofs::Commands::field_room, crate::proofs::Commands::transpose_room, crate::proofs::Commands::reshape_room, crate::proofs::Commands::broadcast_room, crate::proofs::Shorter::length_shorter, crate::proofs::Shorter::integer_shorter))]
 fn viewing(alloc: Global, verb: ViewVerb, bytes: &[u8]) -> Result<(Viewing, &[u8]), Refusal>
     ensures { Takes viewing_room result (viewing_at verb bytes.now) }
 {

@@ -1,11 +1,11 @@
 -- The picks of a basic index, with slices as runs.
-use Rattle.std.specs.Prelude.{◌≡◌, ◌≤◌, ℕ, nat_lt, if◌then◌else◌, ℤ, pos, neg_ℤ, ◌*ℤ◌, ◌≤ℤ◌, List, [], ◌∷◌, ◌++◌, map}
-use Rattle.view_ops.specs.Words.{max_bytes}
+use Rattle.std.specs.Prelude.{◌≡◌, ◌≤◌, ℕ, Bool, nat_le, nat_lt, length, if◌then◌else◌, ℤ, pos, neg_ℤ, ◌*ℤ◌, ◌≤ℤ◌, List, [], ◌∷◌, ◌++◌, map, Result, Ok}
+use Rattle.view_ops.specs.Words.{list_all, IndexItem, Refusal, TooManyAxes, ◌>>=◌, check, max_axes, max_bytes}
 use Rattle.view_ops.specs.declared.picks.AxisPick.{AxisPick}
 use Rattle.view_ops.specs.declared.picks.AxisPick.TheVariants.{At as AtAxis, Along as AlongAxis, New as NewAxis}
 use Rattle.view_ops.specs.declared.slice.Progression.{Progression}
 pub use Rattle.view_ops.specs.Picks.{pick_shown, ArePicks}
-use Rattle.view_ops.specs.Basics.{Pick}
+use Rattle.view_ops.specs.Basics.{Pick, is_on_axis, picked_shape, placed}
 
 -- The new list is the old one followed by picks of these axes, which are shown as `picks`.
 pub record AddsPicks (old new : List AxisPick) (axes : List ℕ) (picks : List Pick) : Type 0 where
@@ -13,6 +13,15 @@ pub record AddsPicks (old new : List AxisPick) (axes : List ℕ) (picks : List P
   pub after : new ≡ old ++ added
   pub are : ArePicks axes added
   pub show : map pick_shown added ≡ picks
+
+abbrev pub are_on_axes : {A : Type 0} → List ℕ → List (IndexItem A) → Bool
+are_on_axes shape items = list_all (λ p. is_on_axis p.axes p.item) (placed shape items)
+
+-- the shape of a view, or the refusal if it has too many axes
+unfoldable pub shape_picked : List Pick → Result (List ℕ) Refusal
+shape_picked picks = do
+  _ ← check (nat_le (length (picked_shape picks)) max_axes) TooManyAxes
+  Ok (picked_shape picks)
 
 abbrev pub axes_of_pick : AxisPick → ℕ
 axes_of_pick NewAxis = 0

@@ -17,5 +17,4 @@ returns-in_err-owned c =
     rw (p.1, p.2) (binds-bad _ _ c.in_ok-name.name _ _ [] c.in_ok-name.ensures (sym c.if-not-has_room_for.ensures) c.in_err-owned.ensures)
 
 pub returns : goal.returns
-returns c =
-    binds-made _ _ _ c.in_ok-name.name _ c.in_ok-owned.owned c.bind.result _ c.in_ok-name.ensures (sym c.if-not-has_room_for.ensures) c.in_ok-owned.ensures c.in_ok-set_bound_text.ensures c.bind.ensures.answers
+returns c = binds-made _ _ _ c.in_ok-name.name _ c.in_ok-owned.owned c.bind_new.result _ c.in_ok-name.ensures (sym c.if-not-has_room_for.ensures) c.in_ok-owned.ensures c.bind_new.ensures.answers

@@ -1,12 +1,11 @@
 use Rattle.std.proofs.Common.{◌≡◌, ap, sym, refl, inr, ◌∙◌, arith}
-use Rattle.bench_engine.proofs.Words.{and-true, err_from_is_err_and, common_steps, offsets, addresses, array_text, items_from, info_text, format_text, shares_text, print_outcome, info_outcome, format_outcome, accepted_with}
+use Rattle.bench_engine.proofs.Words.{and-true, err_from_is_err_and, common_steps, offsets, addresses, array_text, items_from, info_text, format_text, shares_text, accepted_with}
 use Rattle.bench_engine.proofs.Looks.{print-found, unbound}
 use Rattle.bench_engine.proofs.Outcomes.{shares-done, shares-refused}
 use Rattle.bench_engine.proofs.Steps.{spare}
 use Rattle.bench_engine.proofs.ask.reply.Goals as goal
 
 pub returns-in_err-array-in-Print : goal.returns-in_err-array-in-Print
-unfolding print_outcome
 returns-in_err-array-in-Print c =
     let p = err_from_is_err_and c.from_residual.result c.from_residual.ensures.1 in
     let e = c.in_err-array-in-Print.ensures in
@@ -26,14 +25,12 @@ returns-in_ok-print-in-Print c =
     )
 
 pub returns-in_err-array-in-Info : goal.returns-in_err-array-in-Info
-unfolding info_outcome
 returns-in_err-array-in-Info c =
     let p = err_from_is_err_and c.from_residual-in_err-array-in-Info.result c.from_residual-in_err-array-in-Info.ensures.1 in
     let e = c.in_err-array-in-Info.ensures in
     rw (p.1, p.2, e.0, c.in-Info.is) (refl, inr (λ choice. rw (unbound c.args.bench.now.state c.in-Info.name e.1) refl))
 
 pub returns-in_ok-set_info_text-in-Info : goal.returns-in_ok-set_info_text-in-Info
-unfolding info_outcome
 returns-in_ok-set_info_text-in-Info c =
     let s = c.args.bench.now.state in
     let it = c.in_ok-array-in-Info.ensures.1 in
@@ -47,14 +44,12 @@ returns-in_ok-set_info_text-in-Info c =
     )
 
 pub returns-in_err-array-in-Format : goal.returns-in_err-array-in-Format
-unfolding format_outcome
 returns-in_err-array-in-Format c =
     let p = err_from_is_err_and c.from_residual-in_err-array-in-Format.result c.from_residual-in_err-array-in-Format.ensures.1 in
     let e = c.in_err-array-in-Format.ensures in
     rw (p.1, p.2, e.0, c.in-Format.is) (refl, inr (λ choice. rw (unbound c.args.bench.now.state c.in-Format.name e.1) refl))
 
 pub returns-in_ok-push-in-Format : goal.returns-in_ok-push-in-Format
-unfolding format_outcome
 returns-in_ok-push-in-Format c =
     let s = c.args.bench.now.state in
     let it = c.in_ok-array-in-Format.ensures.1 in

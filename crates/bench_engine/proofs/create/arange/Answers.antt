@@ -1,6 +1,7 @@
 use Rattle.std.proofs.Common.{◌≡◌, ◌*◌, ◌∙◌, [], ◌∷◌, Ok, Err, sym, inl, inr, arith, ap, refl}
 use Rattle.bench_engine.proofs.Words.{err_from_is_err_and, size, count, descriptor, range_items, range_scalar, arange_contents}
-use Rattle.bench_engine.proofs.Makes.{passed, integer-given, range-shape, range-shape-refused, arange-done, in-order}
+use Rattle.bench_engine.specs.NewArrayLaws.{in-order, passed}
+use Rattle.bench_engine.proofs.Makes.{integer-given, range-shape, range-shape-refused, arange-done}
 use Rattle.bench_engine.proofs.create.arange.Goals.{After-branch-len}
 use Rattle.bench_engine.proofs.create.arange.Goals as goal
 

@@ -1,6 +1,7 @@
 use Rattle.std.proofs.Common.{◌≡◌, length, arith, inr, ap, refl}
 use Rattle.bench_engine.proofs.Words.{err_from_is_err_and, count, item_values, array_type, array_contents, eq-eqb}
-use Rattle.bench_engine.proofs.Makes.{passed, array-number, array-done}
+use Rattle.bench_engine.specs.NewArrayLaws.{passed}
+use Rattle.bench_engine.proofs.Makes.{array-number, array-done}
 use Rattle.bench_engine.proofs.create.array.Goals as goal
 
 pub returns-in_err-descr : goal.returns-in_err-descr

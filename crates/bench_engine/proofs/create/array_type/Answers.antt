@@ -1,31 +1,31 @@
 use Rattle.std.proofs.Common.{◌≡◌, ◌*◌, inr, arith, refl}
 use Rattle.bench_engine.proofs.Words.{le-leb, lt-leb, err_from_is_err_and, descriptor, item_size, max_bytes, count, shape_of, array_type}
-use Rattle.bench_engine.proofs.Makes.{passed}
+use Rattle.bench_engine.specs.NewArrayLaws.{passed}
 use Rattle.bench_engine.proofs.create.array_type.Goals as goal
 
 pub returns-in_err-descr-clause-value : goal.returns-in_err-descr-clause-value
 unfolding array_type
-returns-in_err-descr-clause-value c =
+returns-in_err-descr-clause-value c lengths given =
     let p = err_from_is_err_and c.from_residual.result c.from_residual.ensures.1 in
-    rw (p.1, p.2) (passed (descriptor c.args.descr.now) _ _ (λ bad. rw bad refl) (rw c.as_slice.ensures at c.in_err-descr.ensures))
+    rw (p.1, p.2) (passed (descriptor c.args.descr.now) _ _ (λ bad. rw bad refl) c.in_err-descr.ensures)
 
 pub returns-in_err-shape-clause-value : goal.returns-in_err-shape-clause-value
 unfolding array_type
-returns-in_err-shape-clause-value c =
+returns-in_err-shape-clause-value c lengths given =
     let p = err_from_is_err_and c.from_residual-in_err-shape.result c.from_residual-in_err-shape.ensures.1 in
-    rw (p.1, p.2) (passed (shape_of c.args.lengths.now) _ _ (λ bad. rw (rw c.as_slice.ensures at c.in_ok-descr.ensures, bad) refl) c.in_err-shape.ensures)
+    rw (p.1, p.2) (passed (shape_of lengths) _ _ (λ bad. rw (c.in_ok-descr.ensures, bad) refl) (rw c.in_err-shape.was at given))
 
 pub returns-then-items-size-gt-MAX_BYTES-clause-value : goal.returns-then-items-size-gt-MAX_BYTES-clause-value
 unfolding array_type
-returns-then-items-size-gt-MAX_BYTES-clause-value c =
+returns-then-items-size-gt-MAX_BYTES-clause-value c lengths given =
     let bytes : c.items.result * c.size.result ≡ count c.in_ok-shape.shape * item_size c.in_ok-descr.descr = cc in
-    inr (rw (rw c.as_slice.ensures at c.in_ok-descr.ensures, c.in_ok-shape.ensures, lt-leb (count c.in_ok-shape.shape * item_size c.in_ok-descr.descr) max_bytes (omega arith)) refl)
+    inr (rw (c.in_ok-descr.ensures, rw c.in_ok-shape.was at given, lt-leb (count c.in_ok-shape.shape * item_size c.in_ok-descr.descr) max_bytes (omega arith)) refl)
 
 pub returns-clause-value : goal.returns-clause-value
 unfolding array_type
-returns-clause-value c =
+returns-clause-value c lengths given =
     let bytes : c.items.result * c.size.result ≡ count c.in_ok-shape.shape * item_size c.in_ok-descr.descr = cc in
-    rw (rw c.as_slice.ensures at c.in_ok-descr.ensures, c.in_ok-shape.ensures, le-leb (count c.in_ok-shape.shape * item_size c.in_ok-descr.descr) max_bytes (omega arith)) refl
+    rw (c.in_ok-descr.ensures, rw c.in_ok-shape.was at given, le-leb (count c.in_ok-shape.shape * item_size c.in_ok-descr.descr) max_bytes (omega arith)) refl
 
 pub returns-clause-bytes : goal.returns-clause-bytes
 returns-clause-bytes c =

@@ -1,4 +1,4 @@
-use Rattle.bench_engine.proofs.Creates.{new-answers}
+use Rattle.bench_engine.specs.NewArrayLaws.{new-answers}
 use Rattle.bench_engine.proofs.create.bind_new.Goals as goal
 
 pub returns-clause-answers : goal.returns-clause-answers

@@ -1,6 +1,7 @@
 use Rattle.std.proofs.Common.{◌≡◌, ◌∙◌, ap, sym, subst, length, replicate, Ok, arith, refl}
 use Rattle.bench_engine.proofs.Words.{err_from_is_err_and, item_size, decode_item, blocks, item_value, array_type, full_contents}
-use Rattle.bench_engine.proofs.Makes.{passed, full-done}
+use Rattle.bench_engine.specs.NewArrayLaws.{passed}
+use Rattle.bench_engine.proofs.Makes.{full-done}
 use Rattle.bench_engine.proofs.create.full.Goals as goal
 
 pub returns-in_err-descr : goal.returns-in_err-descr

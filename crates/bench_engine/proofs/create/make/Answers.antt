@@ -1,6 +1,6 @@
 use Rattle.std.proofs.Common.{sym, refl, inr}
 use Rattle.bench_engine.proofs.Words.{err_from_is_err_and, contents_of, creation_outcome}
-use Rattle.bench_engine.proofs.Creates.{creation-refused, made-answers}
+use Rattle.bench_engine.specs.NewArrayLaws.{creation-refused, made-answers}
 use Rattle.bench_engine.proofs.create.make.Goals as goal
 
 pub returns-then-not-has_room_for-clause-answers : goal.returns-then-not-has_room_for-clause-answers

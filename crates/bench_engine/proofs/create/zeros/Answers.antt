@@ -1,6 +1,7 @@
 use Rattle.std.proofs.Common.{refl}
 use Rattle.bench_engine.proofs.Words.{err_from_is_err_and, array_type, zeros_contents}
-use Rattle.bench_engine.proofs.Makes.{passed, zeros-made}
+use Rattle.bench_engine.specs.NewArrayLaws.{passed}
+use Rattle.bench_engine.proofs.Makes.{zeros-made}
 use Rattle.bench_engine.proofs.create.zeros.Goals as goal
 
 pub returns-in_err-descr : goal.returns-in_err-descr

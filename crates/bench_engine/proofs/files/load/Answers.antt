@@ -1,6 +1,6 @@
 use Rattle.std.proofs.Common.{[], refl, sym, inl, Err}
 use Rattle.bench_engine.proofs.Words.{err_from_is_err_and, held, bound_loaded}
-use Rattle.bench_engine.proofs.Creates.{fresh-answers}
+use Rattle.bench_engine.specs.NewArrayLaws.{fresh-answers}
 use Rattle.bench_engine.proofs.LoadedFiles.{load-full, find-refused, load-answers}
 use Rattle.bench_engine.proofs.files.load.Goals as goal
 

@@ -2,7 +2,7 @@ use Rattle.std.proofs.Common.{◌∙◌, refl, sym, ap, subst, map, inl, Ok}
 use Rattle.bench_engine.proofs.Words.{err_from_is_err_and, Descr, item_from, offsets, taken, operand_part, Meets, IsPart}
 use Rattle.bench_engine.specs.declared.operands.Part.TheVariants as part
 use Rattle.bench_engine.proofs.Computes.{part-whole, part-bad, part-done}
-use Rattle.bench_engine.proofs.Makes.{in-order, passed}
+use Rattle.bench_engine.specs.NewArrayLaws.{in-order, passed}
 use Rattle.bench_engine.proofs.TargetLaws.{aimed, copy-lacks, plan-within, takes-copy}
 use Rattle.bench_engine.proofs.operands.operand_part.Goals as goal
 

@@ -1,7 +1,7 @@
 use Rattle.std.proofs.Common.{refl, sym, ap, inr, ◌∙◌}
 use Rattle.bench_engine.proofs.Words.{err_from_is_err_and, bound_new, computed_contents, held}
 use Rattle.bench_engine.proofs.Computes.{compute-unknown, compute-many, compute-bad, compute-done}
-use Rattle.bench_engine.proofs.Creates.{same-answers}
+use Rattle.bench_engine.specs.NewArrayLaws.{same-answers}
 use Rattle.bench_engine.proofs.Views.{refused-or}
 use Rattle.bench_engine.proofs.operate.compute.Goals as goal
 

@@ -4,7 +4,7 @@ use Rattle.bench_engine.proofs.Answered.{met}
 use Rattle.bench_engine.proofs.Casts.{cast-gives}
 use Rattle.bench_engine.proofs.Computes.{combined-bad, combined-part, transformed-gives}
 use Rattle.bench_engine.proofs.Copies.{copied-gives}
-use Rattle.bench_engine.proofs.Makes.{passed}
+use Rattle.bench_engine.specs.NewArrayLaws.{passed}
 use Rattle.bench_engine.proofs.OperandLaws.{all-stand}
 use Rattle.bench_engine.proofs.Reduces.{reduced-gives}
 use Rattle.bench_engine.proofs.operate.computed.Goals as goal

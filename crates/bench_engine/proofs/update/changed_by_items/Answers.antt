@@ -1,6 +1,6 @@
 use Rattle.std.proofs.Common.{◌≡◌, ◌≤◌, ◌*◌, List, ℕ, true, sym, ap, ◌∙◌, inr, subst}
 use Rattle.bench_engine.proofs.Words.{err_from_is_err_and, Descr, item_size, count, max_bytes, stretched, can_cast, is_scalar, ScalarDescr, operation_scalar, operation_on}
-use Rattle.bench_engine.proofs.Makes.{passed}
+use Rattle.bench_engine.specs.NewArrayLaws.{passed}
 use Rattle.bench_engine.proofs.Updates.{changed-type, changed-record, changed-kind, changed-apart, changed-worked, changed-done, changed-gives, worked-descr, worked-shape, view-can, kind-casts, own_values, stands-own}
 use Rattle.bench_engine.proofs.Views.{given-view}
 use Rattle.bench_engine.proofs.update.changed_by_items.Goals as goal

@@ -1,6 +1,6 @@
 use Rattle.std.proofs.Common.{◌≡◌, ◌≤◌, ◌*◌, List, ℕ, true, sym, ap, ◌∙◌, refl, inr, subst}
 use Rattle.bench_engine.proofs.Words.{is_ok, false≢true, err_from_is_err_and, same_answer, Descr, Scalar, item_size, count, max_bytes, IsShape, can_cast, same_kind, scalar_of, is_scalar, ScalarDescr, changed_with, literal_values, operation_with}
-use Rattle.bench_engine.proofs.Makes.{passed}
+use Rattle.bench_engine.specs.NewArrayLaws.{passed}
 use Rattle.bench_engine.proofs.Updates.{changed-record, changed-kind, changed-done, changed-gives, kind-casts, literal-parts, literal-refused, own_values, stands-own}
 use Rattle.bench_engine.proofs.update.changed_by_literal.Goals as goal
 

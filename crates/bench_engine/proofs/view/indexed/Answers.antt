@@ -1,6 +1,6 @@
 use Rattle.std.proofs.Common.{◌∙◌, sym, ap, map, inl}
 use Rattle.bench_engine.proofs.Words.{err_from_is_err_and, Descr, item_from, offsets}
-use Rattle.bench_engine.proofs.Makes.{in-order}
+use Rattle.bench_engine.specs.NewArrayLaws.{in-order}
 use Rattle.bench_engine.proofs.PartLaws.{copy-seen, view-seen}
 use Rattle.bench_engine.proofs.TargetLaws.{aimed, copy-lacks, plan-within, takes-copy}
 use Rattle.bench_engine.proofs.view.indexed.Goals as goal

@@ -1,5 +1,5 @@
 use Rattle.std.proofs.Common.{◌≡◌, ◌*◌, ℕ, List, Result, Ok, Err, IfOk, pos, w64, length, sym, ap, subst, ◌∙◌, arith}
-use Rattle.elementwise.proofs.Words.{ints, IfOk-weaker, AllocError, to_z, item_size, EachWithin, max_bytes, count, offsets, length-offsets, run_offsets, row_offsets, row-multiples, multiples, items_at, cast_items, AreItems}
+use Rattle.elementwise.proofs.Words.{ints, IfOk-weaker, AllocError, to_z, item_size, EachWithin, max_bytes, offsets, length-offsets, run_offsets, row_offsets, row-multiples, multiples, items_at, cast_items, AreItems}
 use Rattle.elementwise.proofs.ColumnLaws.{same-cast}
 use Rattle.elementwise.proofs.CutLaws.{first-bytes-cast}
 use Rattle.elementwise.proofs.RowLaws.{count-run, row-within, run-inside}
@@ -7,18 +7,14 @@ use Rattle.elementwise.proofs.casts.cast_block.Goals as goal
 
 -- ---- items that are one run
 
-pub invariant_of-items : goal.invariant_of-items
-invariant_of-items c =
+pub cast_run-requires-clause-within : goal.cast_run-requires-clause-within
+cast_run-requires-clause-within c =
     let x = c.args.from in
-    let run = c.in-Some.run' in
-    let same = c.in-Some.ensures.items in
-    let many : run.count ≡ count x.layout.now.shape = count-run x.layout.now run same in
-    let width = item_size x.descr.now in
-    let lies = run-inside x run same (c.in-Some.ensures.lie max_bytes 1 x.layout.now.within_limit) in
-    record {
-      few = omega (arith, many, c.items-count.ensures.value, c.items-count.ensures.limit);
-      within = subst (λ bytes. EachWithin (length bytes) run.offset run.step c.size-width.result run.count) (sym c.bytes.ensures) (subst (λ w. EachWithin (length x.block.now) run.offset run.step w run.count) (sym c.size-width.ensures.value) lies);
-    }
+    run-inside x c.in-Some.run' c.in-Some.ensures.items (c.in-Some.ensures.lie max_bytes 1 x.layout.now.within_limit)
+
+pub cast_run-requires-clause-count : goal.cast_run-requires-clause-count
+cast_run-requires-clause-count c =
+    omega (arith, count-run c.args.from.layout.now c.in-Some.run' c.in-Some.ensures.items, c.items-count.ensures.value, c.items-count.ensures.limit)
 
 pub cast_run-requires-clause-few : goal.cast_run-requires-clause-few
 cast_run-requires-clause-few c =
@@ -26,17 +22,15 @@ cast_run-requires-clause-few c =
 
 -- ---- items that are gathered first
 
-pub invariant_of-items-2 : goal.invariant_of-items-2
-invariant_of-items-2 c =
+pub cast_run-requires-2-clause-within : goal.cast_run-requires-2-clause-within
+cast_run-requires-2-clause-within c =
     let w = c.size-width.result in
     let n = c.items-count.result in
-    let bytes = c.bytes-2.result.now in
+    let bytes = c.in_ok-packed.packed in
     let near : to_z w64 w ≡ pos w = omega (arith, ints, c.size-width.ensures.within) in
-    let long : length bytes ≡ n * w = ap length c.bytes-2.ensures ∙ c.in_ok-packed.ensures.len ∙ ap (λ n. n * w) (length-offsets c.args.from.layout.now ∙ sym c.items-count.ensures.value) in
-    record {
-      few = omega (arith, c.items-count.ensures.limit);
-      within = subst (λ z. EachWithin (length bytes) 0 z w n) (sym near) (row-within (length bytes) 0 w w n (omega arith) (omega (arith, long)));
-    }
+    let long : length bytes ≡ n * w = c.in_ok-packed.ensures.len ∙ ap (λ n. n * w) (length-offsets c.args.from.layout.now ∙ sym c.items-count.ensures.value) in
+    subst (λ z. EachWithin (length bytes) 0 z (item_size c.args.from.descr.now) n) (sym near)
+    (subst (λ v. EachWithin (length bytes) 0 (pos w) v n) c.size-width.ensures.value (row-within (length bytes) 0 w w n (omega arith) (omega (arith, long))))
 
 pub returns : goal.returns
 returns c =
@@ -45,12 +39,13 @@ returns c =
     let to = c.args.to.now in
     let os = offsets x.layout.now in
     let w = c.size-width.result in
+    let bytes = c.in_ok-packed.packed in
     let near : to_z w64 w ≡ pos w = omega (arith, ints, c.size-width.ensures.within) in
     let many : c.items-count.result ≡ length os = c.items-count.ensures.value ∙ sym (length-offsets x.layout.now) in
     let here : run_offsets (record { offset = 0; count = c.items-count.result; step = to_z w64 w }) ≡ row_offsets 0 w (length os) = λ i. run_offsets (record { offset = 0; count = many i; step = near i }) in
-    let same = (λ i. items_at (row-multiples w (length os) i) w (c.bytes-2.ensures i)) ∙ c.in_ok-packed.ensures.items in
-    let values = (λ i. cast_items from to c.bytes-2.result.now (here i)) ∙ same-cast from to w c.bytes-2.result.now x.block.now (row_offsets 0 w (length os)) os c.size-width.ensures.value same in
-    IfOk-weaker c.cast_run-2.result _ _ (λ bytes are. subst (λ vs. AreItems to vs bytes) values are) c.cast_run-2.ensures
+    let same = (λ i. items_at (row-multiples w (length os) i) w bytes) ∙ c.in_ok-packed.ensures.items in
+    let values = (λ i. cast_items from to bytes (here i)) ∙ same-cast from to w bytes x.block.now (row_offsets 0 w (length os)) os c.size-width.ensures.value same in
+    IfOk-weaker c.cast_run-2.result _ _ (λ out are. subst (λ vs. AreItems to vs out) values are) c.cast_run-2.ensures
 
 -- ---- byte strings that are cut
 

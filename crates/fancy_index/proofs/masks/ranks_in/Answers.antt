@@ -18,7 +18,7 @@ loop-run-init c =
     record {
       lies = subst (All (LiesIn mask.block.now (item_size mask.descr.now))) (sym are) (runs-lie mask _ (omega (arith, c.items-items.ensures.value, c.items-items.ensures.limit)) ens.offsets ens.some (ens.lie max_bytes 1 (search rules)));
       few = omega (arith, ap length all, length-offsets mask.layout.now, c.items-items.ensures.value, c.items-items.ensures.limit);
-      left = λ i. c.new-ranks.ensures.items i ++ true_ranks 0 (map (bool_at mask.block.now) (all i));
+      left = λ i. c.in_ok-ranks.ensures.items i ++ true_ranks 0 (map (bool_at mask.block.now) (all i));
     }
 
 pub push_true-requires : goal.push_true-requires

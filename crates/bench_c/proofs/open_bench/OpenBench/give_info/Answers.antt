@@ -1,5 +1,5 @@
 use Rattle.std.proofs.Common.{inl, inr, refl, ap}
-use Rattle.bench_c.proofs.ArrayLaws.{info-refused}
+use Rattle.bench_c.specs.Arrays.{info_called}
 use Rattle.bench_c.proofs.CallLaws.{known}
 use Rattle.bench_c.proofs.open_bench.OpenBench.give_info.Goals as goal
 
@@ -9,4 +9,5 @@ returns-in-Ok c =
     inl (known _ _ it.0 c.in-Ok.array _ _ it.1 it.2 c.items.ensures.value c.size.ensures.value, refl, refl)
 
 pub returns-in-Err : goal.returns-in-Err
-returns-in-Err c = inr (c.in-Err.refusal, info-refused _ _ _ c.in-Err.ensures, (ap (λ text. record c.args.self.now { reply = text }) c.refuse.ensures.reply, c.refuse.ensures.status), refl)
+unfolding info_called
+returns-in-Err c = inr (c.in-Err.refusal, rw c.in-Err.ensures refl, (ap (λ text. record c.args.self.now { reply = text }) c.refuse.ensures.reply, c.refuse.ensures.status), refl)

@@ -1,6 +1,6 @@
 use Rattle.std.proofs.Common.{◌≡◌, ◌+◌, ◌-◌, ◌*◌, ◌≤◌}
 use Rattle.elementwise.proofs.Words.{run_offsets, cast_items, AreItems}
-use Rattle.elementwise.proofs.casts.cast_run.Given as goal
+use Rattle.elementwise.proofs.casts.cast_bands.Given as goal
 
 -- the first items are cast
 abbrev pub invariant-loop-done : goal.invariant-loop-done
