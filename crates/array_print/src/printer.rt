@@ -180,6 +180,7 @@ pub fn print_by_bands<W: Write>(
     ensures memory { IsErrOf result PrintFault.Memory →
         (writer.new ≡ writer.old) × StartsWith out.new.items out.old.items }
     ensures asked { (writer.new ≡ writer.old) ⊎ (4 * 65536 ≤ vec_capacity out.new) }
+    ensures wanted { IsErrOf result PrintFault.Write → 4 * 65536 ≤ vec_capacity out.new }
     ensures room { vec_capacity out.old ≤ vec_capacity out.new }
 {
     if layout.shape.items() == 0 {
