@@ -65,7 +65,7 @@ returns-in_ok-set_names_text-in-Names c =
 pub returns-in_err-yes-in-Shares : goal.returns-in_err-yes-in-Shares
 returns-in_err-yes-in-Shares c =
     let p = err_from_is_err_and c.from_residual-in_err-yes-in-Shares.result c.from_residual-in_err-yes-in-Shares.ensures.1 in
-    rw (p.1, p.2, c.in-Shares.is, and-true) (refl, shares-refused _ _ _ _ c.in_err-yes-in-Shares.ensures.answers)
+    rw (p.1, p.2, c.in-Shares.is, and-true) (refl, shares-refused c.args.bench.now.state c.in-Shares.left c.in-Shares.right _ c.in_err-yes-in-Shares.ensures.answers)
 
 pub returns-in_ok-yes-in-Shares : goal.returns-in_ok-yes-in-Shares
 returns-in_ok-yes-in-Shares c =

@@ -6,7 +6,7 @@ use Rattle.bench_engine.proofs.printing.print.Goals as goal
 pub returns-in_default-clause-ok : goal.returns-in_default-clause-ok
 returns-in_default-clause-ok g c =
     let text : c.set.new.self ≡ refusal_text UnknownName = grind (arith, common_steps, c.word.ensures.text) in
-    (refusal UnknownName, may-refuse c.args.bench.now.state c.args.name.now UnknownName (inr (λ choice. print-unknown _ _ (not_found _ _ c.in_default.ensures))), refl, ([], sym text, appends_nothing _))
+    (refusal UnknownName, may-refuse c.args.bench.now.state c.args.name.now UnknownName (inr (λ choice. print-unknown c.args.bench.now.state c.args.name.now (not_found _ _ c.in_default.ensures))), refl, ([], sym text, appends_nothing _))
 
 pub returns-in-Ok-clause-ok : goal.returns-in-Ok-clause-ok
 returns-in-Ok-clause-ok g c =
