@@ -1,6 +1,6 @@
 -- Comparisons and their results.
 use Rattle.std.proofs.Common.{◌≡◌, ℕ, true, Ok, Err, List, [], ◌∷◌, refl, sym, subst, arith}
-use Rattle.elementwise.proofs.Words.{Ordering, nat_cmp, is_lt, is_gt, slice_cmp, same_from_slice_cmp, nat_tests, Refusal, NotForThisKind, Scalar, Byte, Int, Bytes, Descr, IsNumber, little, same_answer, check_passed, check_test, common_shape, BoolScalar, ScalarDescr, AreComparable, text_below, are_comparable, compared_type, scalar_of, compared_result}
+use Rattle.elementwise.proofs.Words.{Ordering, nat_cmp, is_lt, is_gt, slice_cmp, same_from_slice_cmp, nat_tests, Refusal, NotForThisKind, Scalar, Byte, Int, Bytes, Descr, IsNumber, little, same_answer, check_passed, check_test, common_shape, BoolScalar, ScalarDescr, AreComparable, text_below, can_cast_scalar, compared_type, scalar_of, compared_result}
 
 -- ---- byte strings
 
@@ -13,17 +13,17 @@ above-cmp = same_from_slice_cmp nat_cmp is_gt (λ xs ys. text_below ys xs) refl 
 -- ---- types
 
 -- a comparison gives bools
-pub compared_bools : (l r s : Scalar) → compared_type l r ≡ Ok s → (are_comparable l r ≡ true) × (s ≡ BoolScalar)
+pub compared_bools : (l r s : Scalar) → compared_type l r ≡ Ok s → (can_cast_scalar l r ≡ true) × (s ≡ BoolScalar)
 unfolding compared_type
 compared_bools l r s found =
-    (check_test (are_comparable l r) NotForThisKind (Ok BoolScalar) s found, sym (same_answer BoolScalar s (check_passed (are_comparable l r) NotForThisKind (Ok BoolScalar) s found)))
+    (check_test (can_cast_scalar l r) NotForThisKind (Ok BoolScalar) s found, sym (same_answer BoolScalar s (check_passed (can_cast_scalar l r) NotForThisKind (Ok BoolScalar) s found)))
 
 -- element types with these scalars
-pub comparable_scalars : (d d' : Descr) (a b : Scalar) → d ≡ ScalarDescr a → d' ≡ ScalarDescr b → are_comparable a b ≡ true → AreComparable d d'
+pub comparable_scalars : (d d' : Descr) (a b : Scalar) → d ≡ ScalarDescr a → d' ≡ ScalarDescr b → can_cast_scalar a b ≡ true → AreComparable d d'
 comparable_scalars d d' a b is is' can = subst (λ e. AreComparable e d') (sym is) (subst (AreComparable (ScalarDescr a)) (sym is') can)
 
 -- numbers can be compared with those of the same scalar in little-endian order
-pub comparable_numbers : (a : Scalar) → IsNumber a → are_comparable a (little a) ≡ true
+pub comparable_numbers : (a : Scalar) → IsNumber a → can_cast_scalar a (little a) ≡ true
 comparable_numbers BoolScalar is = refl
 comparable_numbers (Byte signed) is = refl
 comparable_numbers (Int signed width order) is = refl

@@ -3,7 +3,7 @@ pub use Rattle.elementwise.specs.Bits.{IsTruth}
 pub use Rattle.elementwise.specs.Casts.{can_cast, can_cast_fields, can_cast_scalar, cast_item, cast_value, cast_values}
 pub use Rattle.elementwise.specs.Comparisons.{compared, says, text_below}
 pub use Rattle.elementwise.specs.Operations.{binary, exact, exact_one, floor_quotient, modulo, of_bits, serves_bools, serves_one, shifted_left, shifted_right, sign_bits, unary}
-pub use Rattle.elementwise.specs.Promotion.{are_comparable, common_integers, common_type, integer_type, is_division, literal_type, mixed_type}
+pub use Rattle.elementwise.specs.Promotion.{common_integers, common_type, integer_type, is_division, literal_type, mixed_type}
 unfoldable pub use Rattle.elementwise.specs.Promotion.{compared_type, promote, promote_one, same_kind}
 pub use Rattle.elementwise.specs.ResultLaws.{is_scalar}
 pub use Rattle.elementwise.specs.Results.{GivesArray, binary_item, compared_item, items_stretched, number_as, pairwise, scalar_of, stretched_items, truth_item, unary_item, value_in}

@@ -1,20 +1,13 @@
 -- Casts: items of one element type as items of another, as in NumPy's `astype`. An integer that is out of range is
 -- wrapped, not refused.
-use Rattle.std.specs.Prelude.{pos, Bool, true, false, ◌&&◌, List, [], ◌∷◌, get_or, map, take}
-use Rattle.elementwise.specs.Words.{list_all, Descr, Leaf, Scalar, Byte, Int, Bytes, LeafValue, number, text, wrap, without_nuls, number_of, text_of, Fields, no_more, scalar_field, record_field, leaves_of, ScalarDescr, RecordDescr, BoolScalar}
+use Rattle.std.specs.Prelude.{pos, Bool, true, false, not, ◌&&◌, if◌then◌else◌, List, [], ◌∷◌, get_or, map, take}
+use Rattle.elementwise.specs.Words.{list_all, Descr, Leaf, Scalar, Bytes, is_text, LeafValue, number, text, wrap, without_nuls, number_of, text_of, Fields, no_more, scalar_field, record_field, leaves_of, ScalarDescr, RecordDescr}
 
 -- ---- which casts exist
 
 -- a number can be cast to any number, and a byte string to any byte string
 abbrev pub can_cast_scalar : Scalar → Scalar → Bool
-can_cast_scalar (Bytes m) (Bytes n) = true
-can_cast_scalar (Bytes m) BoolScalar = false
-can_cast_scalar (Bytes m) (Byte signed) = false
-can_cast_scalar (Bytes m) (Int signed width order) = false
-can_cast_scalar BoolScalar (Bytes n) = false
-can_cast_scalar (Byte signed) (Bytes n) = false
-can_cast_scalar (Int signed width order) (Bytes n) = false
-can_cast_scalar _ _ = true
+can_cast_scalar from to = if is_text from then is_text to else not (is_text to)
 
 -- Fields are matched by position. At every level there must be equally many, and scalars are cast to scalars, and
 -- records to records.
@@ -35,10 +28,8 @@ can_cast (RecordDescr from) (ScalarDescr to) = false
 -- A value cast to a scalar. A number is wrapped to the scalar's number of bits; for a bool, any number but 0 becomes 1.
 -- A byte string is cut to the scalar's length, and the NULs at its end are dropped.
 abbrev pub cast_value : Scalar → LeafValue → LeafValue
-cast_value BoolScalar value = number (wrap BoolScalar (number_of value))
-cast_value (Byte signed) value = number (wrap (Byte signed) (number_of value))
-cast_value (Int signed width order) value = number (wrap (Int signed width order) (number_of value))
 cast_value (Bytes n) value = text (without_nuls (take n (text_of value)))
+cast_value scalar value = number (wrap scalar (number_of value))
 
 -- each value, cast to the leaf at its position
 abbrev pub cast_values : List Leaf → List LeafValue → List LeafValue

@@ -1,6 +1,7 @@
 -- The type of a result, as NumPy 2 promotes the types of two operands.
 use Rattle.std.specs.Prelude.{ℕ, ◌*◌, max, ◌==◌, nat_le, Bool, true, false, not, ◌&&◌, ◌||◌, if◌then◌else◌, Result, Ok}
 use Rattle.elementwise.specs.Words.{Refusal, NotForThisKind, NeedsFloats, NotSameKind, Little, Two, Four, Eight, Scalar, Byte, Int, size, ◌>>=◌, check, is_bool, is_text, is_signed, little, BinOp, Divide, UnOp, BoolScalar}
+use Rattle.elementwise.specs.Casts.{can_cast_scalar}
 use Rattle.elementwise.specs.Operations.{serves_bools, serves_one}
 
 -- ---- kinds
@@ -59,14 +60,10 @@ promote op left right = do
   _ ← check (not (is_division op)) NeedsFloats
   common_type left right
 
--- numbers can be compared with numbers, and byte strings with byte strings
-abbrev pub are_comparable : Scalar → Scalar → Bool
-are_comparable left right = if is_text left then is_text right else not (is_text right)
-
--- the type of the result of a comparison of two scalars
+-- the type of the result of a comparison of two scalars: numbers are compared with numbers, byte strings with byte strings
 unfoldable pub compared_type : Scalar → Scalar → Result Scalar Refusal
 compared_type left right = do
-  _ ← check (are_comparable left right) NotForThisKind
+  _ ← check (can_cast_scalar left right) NotForThisKind
   Ok BoolScalar
 
 -- the type of an integer literal that is used with a scalar: the type of the scalar, or a signed 64-bit integer if the

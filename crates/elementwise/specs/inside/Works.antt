@@ -1,7 +1,8 @@
 -- What is computed from the values of two items.
 use Rattle.std.specs.Prelude.{◌≡◌, ℕ, ℤ, List, not, true, false}
 use Rattle.elementwise.specs.Words.{Little, Eight, Scalar, Int, Bytes, LeafValue, number, Descr, Comparison, IsNumber, number_of, wrap, little, BoolScalar, ScalarDescr}
-use Rattle.elementwise.specs.Promotion.{is_division, are_comparable}
+use Rattle.elementwise.specs.Promotion.{is_division}
+use Rattle.elementwise.specs.Casts.{can_cast_scalar}
 use Rattle.elementwise.specs.Operations.{binary, unary}
 use Rattle.elementwise.specs.inside.PairPasses.{says_number, compared_value, truth_value, value_pair, Holds}
 use Rattle.elementwise.specs.declared.operations.Work.{Work}
@@ -71,7 +72,7 @@ CanPair (Texts comparison width width') = Unit {0}
 
 -- the items of two element types can be compared
 abbrev pub AreComparable : Descr → Descr → Type 0
-AreComparable (ScalarDescr left) (ScalarDescr right) = are_comparable left right ≡ true
+AreComparable (ScalarDescr left) (ScalarDescr right) = can_cast_scalar left right ≡ true
 AreComparable _ _ = ⊥
 
 -- A pairing that compares numbers of two scalars by value, after a cast to scalars that hold all their values.
