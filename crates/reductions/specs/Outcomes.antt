@@ -1,16 +1,14 @@
 -- The type and shape of the array that a reduction gives, or what is refused.
 use Rattle.std.specs.Prelude.{◌≡◌, ℕ, ℤ, Bool, not, ◌&&◌, ◌==◌, Option, List, length, map, IfOk, Result, Ok, Err}
 use Rattle.std.specs.List.{flat_map}
-use Rattle.reductions.specs.Words.{C, Descr, Gives, Items, Refusal, NotForThisKind, BadAxis, EmptyReduction, Scalar, Byte, Int, Bytes, ◌>>=◌, check, count, encode_item, item_from, item_size, offsets, offsets_in, owned_items, shape_of, Owned, Red, ScalarDescr, RecordDescr, BoolScalar}
+use Rattle.reductions.specs.Words.{C, Descr, Gives, Items, Refusal, NotForThisKind, BadAxis, EmptyReduction, Scalar, Bytes, ◌>>=◌, check, count, encode_item, item_from, item_size, offsets, offsets_in, owned_items, shape_of, Owned, Red, ScalarDescr, RecordDescr}
 use Rattle.reductions.specs.Lists.{named_axis, is_axis, reduced_shape, list_length, lists}
 use Rattle.reductions.specs.Reductions.{result_scalar, needs_items, reduced_items}
 
 -- the scalar of items that are numbers; byte strings and records are refused
 abbrev pub number_scalar : Descr → Result Scalar Refusal
-number_scalar (ScalarDescr BoolScalar) = Ok BoolScalar
-number_scalar (ScalarDescr (Byte signed)) = Ok (Byte signed)
-number_scalar (ScalarDescr (Int signed width order)) = Ok (Int signed width order)
 number_scalar (ScalarDescr (Bytes n)) = Err NotForThisKind
+number_scalar (ScalarDescr scalar) = Ok scalar
 number_scalar (RecordDescr structure) = Err NotForThisKind
 
 -- whether an item of the result would be the reduction of an empty list
