@@ -1,6 +1,6 @@
 -- Operations on a state: names are looked up, bound and removed, and arrays are read and written.
 use Rattle.std.specs.Prelude.{ℕ, ◌-◌, Bool, true, List, [], ◌∷◌, ◌++◌, length, take, map, Option, Some, None, slice_get, slice_set, is_some, nat_eq, nat_lt, if◌then◌else◌, unwrap_or, ◌||◌, ◌&&◌}
-use Rattle.name_store.specs.Words.{list_any, option_map_or, bytes_eq, get, insert, retain_keys, keep_last, last_item, Descr, Int, Four, Little, item_size, LeafValue, offsets_of, ScalarDescr}
+use Rattle.name_store.specs.Words.{list_any, option_map_or, bytes_eq, nat_cmp, FinMap, get, insert, retain_keys, keep_last, last_item, Descr, Int, Four, Little, item_size, LeafValue, offsets_of, ScalarDescr}
 use Rattle.name_store.specs.Parts.{descr_at, start_at, span_at, part_at, with_part, have_common, share_leaves}
 use Rattle.name_store.specs.States.{Buffer, Array, State}
 
@@ -45,23 +45,21 @@ has_room_for s name = is_bound s name || nat_lt (length s.names) 1024
 abbrev pub is_in_use : List (List ℕ × Array) → ℕ → Bool
 is_in_use names buffer = list_any (λ entry. nat_eq entry.1.buffer buffer) names
 
--- The name is bound to an array in a new buffer. Buffers that no name uses any longer are removed.
+-- The names are these, the buffers are those of them that a name uses, and the state before is kept.
+abbrev pub with_names : State → List (List ℕ × Array) → FinMap nat_cmp Buffer → State
+with_names s names buffers = record (keeping s) { names = names; buffers = retain_keys buffers (is_in_use names) }
+
+-- The name is bound to an array in a new buffer.
 abbrev pub bound_to : State → List ℕ → Array → Buffer → State
-bound_to s name array buffer =
-    let names = put_array s.names name array in
-    record (keeping s) { names = names; buffers = retain_keys (insert s.buffers array.buffer buffer) (is_in_use names) }
+bound_to s name array buffer = with_names s (put_array s.names name array) (insert s.buffers array.buffer buffer)
 
--- The name is bound to an array in an existing buffer. Buffers that no name uses any longer are removed.
+-- The name is bound to an array in an existing buffer.
 abbrev pub bound_view : State → List ℕ → Array → State
-bound_view s name array =
-    let names = put_array s.names name array in
-    record (keeping s) { names = names; buffers = retain_keys s.buffers (is_in_use names) }
+bound_view s name array = with_names s (put_array s.names name array) s.buffers
 
--- The name is unbound. Buffers that no name uses any longer are removed.
+-- The name is unbound.
 abbrev pub unbound : State → List ℕ → State
-unbound s name =
-    let names = without s.names name in
-    record (keeping s) { names = names; buffers = retain_keys s.buffers (is_in_use names) }
+unbound s name = with_names s (without s.names name) s.buffers
 
 -- Arrays
 
