@@ -1,6 +1,6 @@
 -- The ranks of true bools.
-use Rattle.std.proofs.Common.{◌≡◌, ◌⊎◌, inl, inr, ℕ, zero, suc, ◌+◌, ◌*◌, ◌/◌, ◌%◌, ◌^◌, ◌<◌, ◌≤◌, true, false, List, [], ◌∷◌, ◌++◌, map, length, get_or, set, take, drop, refl, sym, ap, subst, ◌∙◌, arith, append_assoc, ℤ, pos, ◌*ℤ◌}
-use Rattle.fancy_index.proofs.Words.{flat_map, int_eq, ints, map-map, get_or-map, length-map, get_or-drop, get_or-take, drop_more, map-append, take-set, take_more_set, item_at, Descr, Byte, Int, Bytes, item_from, truth, Run, run_offsets, length-run_offsets, ScalarDescr, RecordDescr, BoolScalar, Mask, kind_of, axes_of_kind, first_number, number_from, Bools, bool_at, bools_in, AreBits, LieInBytes, true_ranks}
+use Rattle.std.proofs.Common.{◌≡◌, ◌⊎◌, inl, inr, ℕ, zero, suc, ◌+◌, ◌*◌, ◌/◌, ◌%◌, ◌^◌, ◌<◌, ◌≤◌, true, false, List, [], ◌∷◌, ◌++◌, map, length, get_or, set, take, drop, refl, sym, ap, subst, ◌∙◌, arith, append_assoc, cond, not, ℤ, pos, ◌*ℤ◌}
+use Rattle.fancy_index.proofs.Words.{flat_map, count_by-le-length, int_eq, ints, map-map, get_or-map, length-map, get_or-drop, get_or-take, drop_more, map-append, sum_by-append, sum_by-drop_more, take-set, take_more_set, item_at, Descr, Byte, Int, Bytes, item_from, truth, Run, run_offsets, length-run_offsets, ScalarDescr, RecordDescr, BoolScalar, Mask, kind_of, axes_of_kind, first_number, number_from, Bools, bool_at, bools_in, AreBits, LieInBytes, true_count, true_ranks}
 use Rattle.fancy_index.proofs.RunLaws.{lies-there}
 
 -- ---- the bools of a mask
@@ -33,6 +33,10 @@ numbers-same descr descr' block block' os os' same =
 
 -- ---- their ranks
 
+either : (t : ℕ) → t ≤ 1 → (t ≡ 0) ⊎ (t ≡ 1)
+either zero few = inl refl
+either (suc n) few = inr (omega (arith, few))
+
 rank-step : (number : ℤ) (numbers : List ℤ) (rank : ℕ) → (true_ranks rank (number ∷ numbers) ≡ true_ranks rank (number ∷ []) ++ true_ranks (rank + 1) numbers)
 rank-step number numbers rank = by (int_eq number (pos 0)) refl
   where
@@ -50,11 +54,35 @@ true_ranks-append (number ∷ front) back rank =
     ∙ sym (append_assoc here (true_ranks (rank + 1) front) (true_ranks (rank + 1 + length front) back))
     ∙ (λ i. sym (rank-step number front rank) i ++ true_ranks (next i) back)
 
--- ---- loops over bools
+-- as many as there are true bools
+pub length-true_ranks : (numbers : List ℤ) (rank : ℕ) → length (true_ranks rank numbers) ≡ true_count numbers
+length-true_ranks [] rank = refl
+length-true_ranks (number ∷ numbers) rank = by (int_eq number (pos 0)) refl
+  where
+    by : (zero' : _) → int_eq number (pos 0) ≡ zero' → length (true_ranks rank (number ∷ numbers)) ≡ true_count (number ∷ numbers)
+    by true is = rw is (length-true_ranks numbers (rank + 1))
+    by false is = rw is (omega (arith, length-true_ranks numbers (rank + 1)))
 
-either : (t : ℕ) → t ≤ 1 → (t ≡ 0) ⊎ (t ≡ 1)
-either zero few = inl refl
-either (suc n) few = inr (omega (arith, few))
+pub few-true : (numbers : List ℤ) → true_count numbers ≤ length numbers
+few-true numbers = count_by-le-length (λ number. not (int_eq number (pos 0))) numbers
+
+-- one more bool is counted
+pub counted : (numbers : List ℤ) (many k t : ℕ) → t ≤ 1 → k < length numbers → get_or numbers k (pos 0) ≡ pos t → many + t + true_count (drop (k + 1) numbers) ≡ many + true_count (drop k numbers)
+counted numbers many k t few low is =
+    let more = sum_by-drop_more (λ number. cond (not (int_eq number (pos 0))) 1 0) numbers k (pos 0) low in
+    elim (either t few) as (λ _. many + t + true_count (drop (k + 1) numbers) ≡ many + true_count (drop k numbers)) [
+      | inl none ↦ omega (arith, none, rw (is, none) at more)
+      | inr one ↦ omega (arith, one, rw (is, one) at more)
+    ]
+
+-- the bools of the first of the remaining runs are counted
+pub run_counted : (f : ℕ → ℤ) (run : Run) (left left' : List Run) → left ≡ run ∷ left' → true_count (map f (run_offsets run)) + true_count (map f (flat_map run_offsets left')) ≡ true_count (map f (flat_map run_offsets left))
+run_counted f run left left' walked =
+    sym (sum_by-append (λ number. cond (not (int_eq number (pos 0))) 1 0) (map f (run_offsets run)) (map f (flat_map run_offsets left')))
+    ∙ ap true_count (sym (map-append f (run_offsets run) (flat_map run_offsets left')))
+    ∙ ap (λ l. true_count (map f (flat_map run_offsets l))) (sym walked)
+
+-- ---- loops over bools
 
 -- The rank of one more bool is written, and is kept if the bool is true.
 pub noted : (numbers : List ℤ) (found whole : List ℕ) (rank many k t : ℕ) → t ≤ 1 → k < length numbers → many < length found → get_or numbers k (pos 0) ≡ pos t →

@@ -9,7 +9,7 @@ pub use Rattle.fancy_index.specs.Parts.{Axis, Between, Part, Points, axes_before
 pub use Rattle.fancy_index.specs.PlanLaws.{filled-run, put_each-append}
 pub use Rattle.fancy_index.specs.Plans.{GivesPlan, IsPlanOf, Planned, put_each}
 pub use Rattle.fancy_index.specs.Sources.{first_number, index_array_of, index_item_of, index_items, number_from}
-pub use Rattle.fancy_index.specs.Words.{All-back, All-front, AlongAxis, ArePicks, Array, AtAxis, AxisPick, BeginsWithin, BoolScalar, Byte, Bytes, Descr, EachWithin, Ellipsis, Gives, GivesView, IndexItem, IndexOutOfRange, IndexShapes, Int, Integer, IsIndex, IsIndex-append, IsIndex-broadcast, IsIndex-first, IsShape, IsViewOf, Items, Layout, LieWithin, LieWithin-view, MaskLengths, New, NotAnIndexType, OutOfMemory, Refusal, Run, ScalarDescr, ShowsThrough, Slice, TooLarge, TooManyAxes, TooManyIndices, View, ZeroStep, address, address_at, all_stretch, assigned, assigned-append, axis_below, axis_of, broadcast_index, broadcast_index-itself, bytes_eq, can_stretch, check, common_with, count, count-append, decode_item, dot, dot-zeros, entry-first, factors_pos, few-axes, filled, first_of, flat_map, flat_map-flat_map, flat_map_same, from_front, get_or-indexes, get_or-offsets, has_step, index_at, indexes, int_eq, integer, is_place, item_at, item_from, item_size, items_at, joined-items, joined_at, length-index, length-indexes, length-joined_at, length-offsets, length-run, length-run_offsets, lie-within, list_all, map-flat_map, max_axes, max_bytes, max_items, multiples, natural, not_negative, nth-offset, number_at, number_in, pick_shown, picked_index, picked_shape, place, place-at, pos-natural, pos-offset, position, put, rank, rank-lt, row-multiples, row_offsets, run_numbers, run_offsets, same_on_indexes, shape_of-same, signed_number, stretches, truth, view_through, whole, with-fits, zero_filled, ◌>>=◌}
+pub use Rattle.fancy_index.specs.Words.{All-back, All-front, AlongAxis, ArePicks, Array, AtAxis, AxisPick, BeginsWithin, BoolScalar, Byte, Bytes, Descr, EachWithin, Ellipsis, Gives, GivesView, IndexItem, IndexOutOfRange, IndexShapes, Int, Integer, IsIndex, IsIndex-append, IsIndex-broadcast, IsIndex-first, IsShape, IsViewOf, Items, Layout, LieWithin, LieWithin-view, MaskLengths, New, NotAnIndexType, OutOfMemory, Owned, Refusal, Run, ScalarDescr, ShowsThrough, Slice, TooLarge, TooManyAxes, TooManyIndices, View, ZeroStep, address, address_at, all_stretch, assigned, assigned-append, axis_below, axis_of, broadcast_index, broadcast_index-itself, bytes_eq, can_stretch, check, common_with, count, count-append, decode_item, dot, dot-zeros, entry-first, factors_pos, few-axes, filled, first_of, flat_map, flat_map-flat_map, flat_map_same, from_front, get_or-indexes, get_or-offsets, has_step, index_at, indexes, int_eq, integer, is_place, item_at, item_from, item_size, items, items_at, joined-items, joined_at, length-index, length-indexes, length-joined_at, length-offsets, length-run, length-run_offsets, lie-within, list_all, map-flat_map, max_axes, max_bytes, max_items, multiples, natural, not_negative, nth-offset, number_at, number_in, owned_items, pick_shown, picked_index, picked_shape, place, place-at, pos-natural, pos-offset, position, put, rank, rank-lt, row-multiples, row_offsets, run_numbers, run_offsets, same_on_indexes, shape_of-same, signed_number, stretches, truth, view_through, whole, with-fits, zero_filled, ◌>>=◌}
 unfoldable pub use Rattle.fancy_index.specs.Words.{common_of_two, offsets, picked_view, shape_of, shape_picked, slice_indices, stepped}
 pub use Rattle.fancy_index.specs.declared.index_parts.IndexPart.{IndexPart}
 pub use Rattle.fancy_index.specs.declared.index_parts.IndexPart.TheVariants.{Axis as AxisPart, Between as BetweenPart, Points as PointsPart}
@@ -24,7 +24,7 @@ pub use Rattle.fancy_index.specs.declared.integers.Form.{Form}
 pub use Rattle.fancy_index.specs.declared.result_axes.Stretch.{Stretch}
 pub use Rattle.fancy_index.specs.declared.result_axes.Stretch.TheVariants.{After, Among, Before}
 pub use Rattle.fancy_index.specs.declared.short_rows.ShortRows.{ShortRows}
-pub use Rattle.fancy_index.specs.inside.Bools.{AreAll, AreBits, LieInBytes, bits, bool_at, bools_in, ranks_from}
+pub use Rattle.fancy_index.specs.inside.Bools.{AreAll, AreBits, LieInBytes, bits, bool_at, bools_in, ranks_from, true_count}
 pub use Rattle.fancy_index.specs.inside.Items.{IsOutside, IsWithin}
 pub use Rattle.fancy_index.specs.inside.Kept.{AreWide, CanAppend, CanScatter, HaveAppended, end_of, first_offsets, moved_offsets, offsets_from, put_packed, row_at, shifted_offsets, short_offsets}
 pub use Rattle.fancy_index.specs.inside.Lists.{IsNext, items_left}
@@ -49,6 +49,7 @@ pub use Rattle.std.proofs.lemmas.List.Edits.{map_over_more}
 pub use Rattle.std.proofs.lemmas.List.Elements.{All-cons, All-drop, All-get_or, All-head, All-map, All-nil, All-rest, All-tail, All-take}
 pub use Rattle.std.proofs.lemmas.List.Folds.{drop_split, flat_map-map, length-flat_map-take, list_all-append, list_all_at, list_all_more}
 pub use Rattle.std.proofs.lemmas.List.FromFn.{get_or-map-range_with_len, get_or-range_with_len, length-map-range_with_len}
+pub use Rattle.std.proofs.lemmas.List.Sums.{count_by-le-length, sum_by-append, sum_by-drop_more}
 pub use Rattle.std.proofs.lemmas.Nat.{div-add-mod', div-mul-add, pow-add}
 pub use Rattle.std.proofs.lemmas.Result.{IfOk-weaker, err_from_is_err_and}
 pub use Rattle.std.proofs.lemmas.Simd.{Each1-get_or, bit_mask_l, bitmask_splat, map-map, put_chunk_is, splat_is_map, zip2_of_maps}

@@ -4,10 +4,10 @@ pub use Rattle.fancy_index.specs.Indexed.{all_axes, indexed, parts_view, points_
 pub use Rattle.fancy_index.specs.Parts.{Between, are_points, axes_of_part, other_axes, parts, parts_of, points_place, wholes}
 pub use Rattle.fancy_index.specs.Plans.{GivesPlan, IsPlanOf, put_each}
 pub use Rattle.fancy_index.specs.Sources.{index_array_of, index_item_of, index_items}
-pub use Rattle.fancy_index.specs.Words.{ArePicks, AtAxis, C, Gives, IsShape, LieWithin, OutOfMemory, TooLarge, address, assigned, can_stretch, count, has_step, indexes, is_ellipsis, is_place, item_at, item_from, item_size, items_at, list_all, max_axes, max_bytes, max_items, multiples, offsets_in, put, run_offsets, truth}
+pub use Rattle.fancy_index.specs.Words.{ArePicks, AtAxis, C, Gives, IsShape, LieWithin, OutOfMemory, TooLarge, address, assigned, can_stretch, count, has_step, indexes, is_ellipsis, is_place, item_at, item_from, item_size, items, items_at, list_all, max_axes, max_bytes, max_items, multiples, offsets_in, owned_items, put, run_offsets, truth}
 unfoldable pub use Rattle.fancy_index.specs.Words.{offsets, shape_of}
 pub use Rattle.fancy_index.specs.declared.kinds.Kind.TheVariants.{Integers, Mask, NoIndex}
-pub use Rattle.fancy_index.specs.inside.Bools.{AreAll, AreNoted, IsBlock, LieInBytes, bits, bools_in, ranks_from}
+pub use Rattle.fancy_index.specs.inside.Bools.{AreAll, AreNoted, IsBlock, LieInBytes, bits, bools_in, ranks_from, true_count}
 pub use Rattle.fancy_index.specs.inside.Items.{IsOutside, IsWithin, array_item, kind_in, numbers_in}
 pub use Rattle.fancy_index.specs.inside.Kept.{CanPush, CanPut, FitAt, HaveFilled, HavePushed, HavePut, first_offsets, moved_offsets, offsets_from, shifted_offsets}
 pub use Rattle.fancy_index.specs.inside.Lists.{items_left}

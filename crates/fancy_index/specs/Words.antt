@@ -1,12 +1,14 @@
 -- Names from std and from the crates below, which this crate's definitions, contracts and proofs use.
 pub use Rattle.arrays.specs.Assignments.{assigned, items_at}
 pub use Rattle.arrays.specs.Blocks.{offsets_in}
+pub use Rattle.arrays.specs.ItemLists.{items, owned_items}
 pub use Rattle.arrays.specs.Joined.{joined_at}
 pub use Rattle.arrays.specs.JoinedLaws.{joined-items, length-joined_at}
 pub use Rattle.arrays.specs.Packed.{row_offsets}
 pub use Rattle.arrays.specs.PackedLaws.{row-multiples}
 pub use Rattle.arrays.specs.RunLaws.{All-back, All-front, BeginsWithin, assigned-append, lie-within, nth-offset, place-at, run_offsets-more}
 pub use Rattle.arrays.specs.declared.items.Items.{Items}
+pub use Rattle.arrays.specs.declared.owned.Owned.{Owned}
 pub use Rattle.broadcasting.specs.BroadcastLaws.{IsIndex-broadcast, broadcast_index-itself}
 pub use Rattle.broadcasting.specs.Broadcasts.{all_stretch, broadcast_index, can_stretch, common_with, stretches}
 unfoldable pub use Rattle.broadcasting.specs.Broadcasts.{common_of_two}

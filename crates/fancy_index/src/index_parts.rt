@@ -96,9 +96,9 @@ pub(crate) fn check_numbers(alloc: Global, parts: &[IndexPart<'_>]) -> Result<()
 {
     for part in parts {
         if let IndexPart::Points(points) = part
-            && let Ranks::Unread(named) = &points.ranks
+            && let Ranks::Named(named) = points.ranks
         {
-            places(alloc, *named)?;
+            places(alloc, named)?;
         }
     }
     Ok(())

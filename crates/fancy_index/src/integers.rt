@@ -1,24 +1,12 @@
 //! Integers, read one by one, and the indexes that they stand for.
 ghost use Rattle.std.specs.Prelude.{◌≡◌, ◌≤◌, ◌<◌, ℤ, List, length, get_or, pos};
 ghost use Rattle.fancy_index.specs.Words.{max_items};
-ghost use Rattle.fancy_index.specs.declared.kinds.Kind.TheVariants.{Integers};
-ghost use Rattle.fancy_index.specs.inside.Items.{kind_in};
 ghost use Rattle.fancy_index.specs.inside.Words.{word, words_along, LiesIn, IsPlaceOf, ArePlaces};
 
-use arrays::Items;
 use byteorder::{BigEndian, ByteOrder, LittleEndian};
 use elem_descr::Order;
 use raw_block::{RunI32, RunI64, array_at};
 use shape_strides::Run;
-
-/// An array whose numbers are indexes of an axis of `n` items.
-#[derive(Clone, Copy, Drop)]
-pub(crate) struct Named<'a> {
-    pub array: Items<'a>,
-    pub n: usize,
-    pub ghost small: { n ≤ max_items },
-    pub ghost kind: { kind_in array ≡ Integers },
-}
 
 /// The form in which an integer is stored.
 #[derive(Clone, Copy)]

@@ -1,8 +1,9 @@
-//! Masks: the ranks at which they are true, and the offsets of these ranks.
-ghost use Rattle.std.specs.Prelude.{All, IfOk, IsTrue, List, OnOk, [], get_or, length, pos, replicate, slice_index, take, ℕ, ◌++◌, ◌+◌, ◌<◌, ◌∷◌, ◌≡◌, ◌≤◌, ◌*ℤ◌, ◌/◌, ◌%◌, ◌^◌};
-ghost use Rattle.fancy_index.specs.Clauses.{LieWithin, count, max_bytes, max_items, offsets, run_offsets, truth, Mask, AreAll, AreNoted, IsBlock, LieInBytes, bits, bools_in, ranks_from, kind_in, numbers_in, true_ranks, IsAtRun, led};
+//! Masks: how many of their items are true, the ranks of these, and the offsets of these ranks.
+ghost use Rattle.std.specs.Prelude.{All, IfOk, IfSome, IsTrue, List, OnOk, [], drop, get_or, length, pos, replicate, slice_index, take, ℕ, ◌++◌, ◌+◌, ◌<◌, ◌∷◌, ◌≡◌, ◌≤◌, ◌*ℤ◌, ◌/◌, ◌%◌, ◌^◌};
+ghost use Rattle.fancy_index.specs.Clauses.{LieWithin, count, items, max_bytes, max_items, offsets, owned_items, run_offsets, truth, Mask, AreAll, AreNoted, IsBlock, LieInBytes, bits, bools_in, ranks_from, true_count, kind_in, numbers_in, true_ranks, IsAtRun, led};
 
-use arrays::{Items, copy};
+use crate::index_arrays::BoolMask;
+use arrays::{Items, Owned, copy};
 use elem_descr::MemoryOrder;
 use raw_block::array_at;
 use shape_strides::{Layout, Run, Runs};
@@ -211,14 +212,14 @@ fn push_true(
     Ok(())
 }
 
-/// The ranks at which a mask is true, read in place.
-fn ranks_in(alloc: Global, mask: Items<'_>) -> Result<Vec<u32>, AllocError>
+/// The ranks at which a mask is true, read in place, in a list that has room for `many`.
+fn ranks_in(alloc: Global, mask: Items<'_>, many: usize) -> Result<Vec<u32>, AllocError>
     requires kind { kind_in mask ≡ Mask }
     ensures { IfOk result (λ v. v.items ≡ true_ranks 0 (numbers_in mask.entry)) }
 {
     let _items = mask.layout.shape.items();
     let bytes = mask.block.bytes();
-    let mut ranks = Vec::new(alloc);
+    let mut ranks = Vec::with_capacity(alloc, many)?;
     let mut found = [0; 512];
     let mut rank = 0;
     for run in Runs::new(mask.layout) {
@@ -228,18 +229,103 @@ fn ranks_in(alloc: Global, mask: Items<'_>) -> Result<Vec<u32>, AllocError>
     Ok(ranks)
 }
 
-/// The ranks at which a mask is true. A mask that is not a single run is copied first if there is
-/// memory for the copy: its ranks are found faster in adjacent bools.
-pub(crate) fn true_ranks(alloc: Global, mask: Items<'_>) -> Result<Vec<u32>, AllocError>
+/// How many of a few bools are true. They are counted in a byte, so that a vector holds sixteen counts.
+#[inline(always)]
+fn count_few(bools: Bools<'_>, from: usize, end: usize) -> u8
+    requires lie { LieInBytes bools }
+    requires order { from ≤ end }
+    requires end { end ≤ bools.run.count }
+    requires few { end ≤ from + 128 }
+    ensures { let numbers = bools_in bools.entry in
+        result + true_count (drop end numbers) ≡ true_count (drop from numbers) }
+{
+    let mut many = 0;
+    for k in from..end {
+        many += truth(bools.bytes[bools.run.offset_after(k)]) as u8;
+    }
+    many
+}
+
+/// How many bools of a run are true, a few at a time.
+#[inline(always)]
+fn count_blocks(bools: Bools<'_>) -> usize
+    requires { LieInBytes bools }
+    ensures { result ≡ true_count (bools_in bools.entry) }
+{
+    let mut many = 0;
+    let mut from = 0;
+    while from < bools.run.count {
+        let end = bools.run.count.min(from + 128);
+        many += count_few(bools, from, end) as usize;
+        from = end;
+    }
+    many
+}
+
+/// The same, with separate loops for adjacent bools and for others.
+fn count_run(bools: Bools<'_>) -> usize
+    requires { LieInBytes bools }
+    ensures { result ≡ true_count (bools_in bools.entry) }
+{
+    match bools.run.step {
+        1 => {
+            let run = Run { step: 1, ..bools.run };
+            count_blocks(Bools { run, ..bools })
+        }
+        _ => count_blocks(bools),
+    }
+}
+
+/// How many items of a mask are true, counted in place.
+fn count_in(mask: Items<'_>) -> usize
     requires kind { kind_in mask ≡ Mask }
-    ensures { IfOk result (λ v. v.items ≡ true_ranks 0 (numbers_in mask.entry)) }
+    ensures { result ≡ true_count (numbers_in mask.entry) }
+{
+    let _items = mask.layout.shape.items();
+    let bytes = mask.block.bytes();
+    let mut many = 0;
+    for run in Runs::new(mask.layout) {
+        many += count_run(Bools {
+            bytes,
+            run,
+            rank: 0,
+        });
+    }
+    many
+}
+
+/// A copy of a mask that is not a single run, if there is memory for it: true bools are found faster
+/// among adjacent ones.
+fn copied(alloc: Global, mask: Items<'_>) -> Option<Owned>
+    ensures descr { IfSome result (λ o. o.descr ≡ mask.entry.descr.now) }
+    ensures shape { IfSome result (λ o. o.layout.shape ≡ mask.entry.layout.now.shape) }
+    ensures items { IfSome result (λ o. owned_items o ≡ items mask.entry) }
 {
     if mask.layout.as_run().is_some() {
-        return ranks_in(alloc, mask);
+        return None;
     }
-    match copy(alloc, mask.block, mask.layout, mask.descr, MemoryOrder::C) {
-        Ok(copied) => ranks_in(alloc, copied.items()),
-        Err(_) => ranks_in(alloc, mask),
+    copy(alloc, mask.block, mask.layout, mask.descr, MemoryOrder::C).ok()
+}
+
+/// How many items of a mask are true.
+pub(crate) fn count_true(alloc: Global, mask: Items<'_>) -> usize
+    requires kind { kind_in mask ≡ Mask }
+    ensures { result ≡ length (true_ranks 0 (numbers_in mask.entry)) }
+{
+    match copied(alloc, mask) {
+        Some(copied) => count_in(copied.items()),
+        None => count_in(mask),
+    }
+}
+
+/// The ranks at which a mask is true.
+pub(crate) fn true_ranks(alloc: Global, mask: BoolMask<'_>) -> Result<Vec<u32>, AllocError>
+    ensures { IfOk result (λ v. v.items ≡ true_ranks 0 (numbers_in mask.entry.array)) }
+{
+    let BoolMask { array, many } = mask;
+    match copied(alloc, array) {
+        Some(copied) => ranks_in(alloc, copied.items(), many),
+        None => ranks_in(alloc, array, many),
     }
 }
 

@@ -1,27 +1,28 @@
 //! Points on some axes: the points of an integer, of an array of integers and of a mask.
 ghost use Rattle.std.specs.Prelude.{All, IfErr, IfOk, [], length, true, ◌∷◌, ◌≡◌, ◌≢◌, ◌≤◌};
-ghost use Rattle.fancy_index.specs.Clauses.{covers, is_within, item_axes, parts_of, is_place, max_items, Integers, Mask, NoIndex, IsOutside, IsWithin, array_item, kind_in, IsPart, are_named, place_of, ranks_of, true_ranks};
+ghost use Rattle.fancy_index.specs.Clauses.{covers, is_within, item_axes, parts_of, is_place, max_items, Integers, Mask, NoIndex, IsOutside, IsWithin, array_item, kind_in, IsPart, are_named, place_of, ranks_of};
 
-use crate::integers::Named;
+use crate::index_arrays::{BoolMask, Named};
 use crate::kinds::{Kind, kind_of};
-use crate::masks::true_ranks;
+use crate::masks::{count_true, true_ranks};
 use crate::positions::places;
 use arrays::Items;
 use elem_descr::Refusal;
 use smallvec::SmallVec;
 use std::alloc::{AllocError, Global};
-use std::mem;
 use view_ops::{from_front, is_place};
 
-/// The ranks of points: either stored, or the indexes in an array, which is read when they are
-/// needed.
-#[derive(Drop)]
+/// The ranks of points: that of an integer, those that an array of integers names, or those at which
+/// a mask is true. Arrays are read when the ranks are needed, so that those of one array are stored
+/// at a time.
+#[derive(Clone, Copy, Drop)]
 pub(crate) enum Ranks<'a> {
-    Held(Vec<u32>),
-    Unread(Named<'a>),
+    One(u32),
+    Named(Named<'a>),
+    Masked(BoolMask<'a>),
 }
 
-/// The positions that one index array selects: its shape, and a flat index for each.
+/// The positions that one index array selects: its shape, and a rank for each.
 #[derive(Drop)]
 pub(crate) struct PointList<'a> {
     pub lengths: SmallVec<usize, 4>,
@@ -30,15 +31,15 @@ pub(crate) struct PointList<'a> {
 }
 
 impl Ranks<'_> {
-    /// The ranks, which are read now unless they are stored, or the refusal of a number that is out
-    /// of range.
-    pub(crate) fn take(&mut self, alloc: Global) -> Result<Vec<u32>, Refusal>
-        ensures within { IsWithin (are_named self.old) result }
-        ensures ranks { IfOk result (λ v. v.items ≡ ranks_of self.old) }
+    /// The ranks, or the refusal of a number that is out of range.
+    pub(crate) fn read(self, alloc: Global) -> Result<Vec<u32>, Refusal>
+        ensures within { IsWithin (are_named self.entry) result }
+        ensures ranks { IfOk result (λ v. v.items ≡ ranks_of self.entry) }
     {
         match self {
-            Ranks::Held(ranks) => Ok(mem::replace(ranks, Vec::new(alloc))),
-            Ranks::Unread(named) => places(alloc, *named),
+            Ranks::One(rank) => Ok(vec![in alloc; rank; 1]?),
+            Ranks::Named(named) => places(alloc, named),
+            Ranks::Masked(mask) => Ok(true_ranks(alloc, mask)?),
         }
     }
 }
@@ -82,13 +83,13 @@ pub(crate) fn integer_point(
     if !is_place(n, at) {
         return Err(Refusal::IndexOutOfRange);
     }
-    let mut ranks = Vec::new(alloc);
-    ranks.push(from_front(n, at) as u32)?;
-    Ok(PointList::try_new(alloc, &[], &[n], Ranks::Held(ranks))?)
+    let rank = Ranks::One(from_front(n, at) as u32);
+    Ok(PointList::try_new(alloc, &[], &[n], rank)?)
 }
 
-/// The points of an array on the axes that it takes, or the refusal of a number. An array of integers
-/// is not read yet, but if its axis is empty, any number is refused.
+/// The points of an array on the axes that it takes, or the refusal of a number. The true items of a
+/// mask are counted. An array of integers is not read yet, but if its axis is empty, any number is
+/// refused.
 pub(crate) fn array_points<'a>(
     alloc: Global,
     axes: &[usize],
@@ -104,8 +105,9 @@ pub(crate) fn array_points<'a>(
 {
     match kind_of(array) {
         Kind::Mask => {
-            let ranks = true_ranks(alloc, array)?;
-            Ok(PointList::try_new(alloc, &[ranks.len()], axes, Ranks::Held(ranks))?)
+            let many = count_true(alloc, array);
+            let ranks = Ranks::Masked(BoolMask { array, many });
+            Ok(PointList::try_new(alloc, &[many], axes, ranks)?)
         }
         Kind::Integers => {
             let n = axes[0];
@@ -113,7 +115,7 @@ pub(crate) fn array_points<'a>(
                 return Err(Refusal::IndexOutOfRange);
             }
             let lengths = array.layout.shape.as_slice();
-            let ranks = Ranks::Unread(Named { array, n });
+            let ranks = Ranks::Named(Named { array, n });
             Ok(PointList::try_new(alloc, lengths, axes, ranks)?)
         }
         Kind::NoIndex => unreachable!(),

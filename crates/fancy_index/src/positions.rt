@@ -6,7 +6,8 @@ ghost use Rattle.fancy_index.specs.inside.Items.{kind_in, numbers_in};
 ghost use Rattle.fancy_index.specs.inside.Tables.{IsTableOf};
 ghost use Rattle.fancy_index.specs.inside.Words.{named_places, word, words_along, AreWords, IsNative, LiesIn, IsPlaceOf, ArePlaces};
 
-use crate::integers::{Form, Named, Words, put_places};
+use crate::index_arrays::Named;
+use crate::integers::{Form, Words, put_places};
 use crate::offset_tables::{OffsetTable, table_if_spread};
 use crate::table_places::{Reading, put_table};
 use elem_descr::{Descr, Order, Refusal, Scalar};

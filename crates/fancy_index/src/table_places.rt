@@ -6,7 +6,8 @@ ghost use Rattle.fancy_index.specs.inside.Readings.{CellsLie, IsReading, cell_wo
 ghost use Rattle.fancy_index.specs.inside.Tables.{AreRead, InCells, InRows};
 ghost use Rattle.fancy_index.specs.inside.Words.{ArePlaces};
 
-use crate::integers::{Form, Integral, Named, put_places, word_place};
+use crate::index_arrays::Named;
+use crate::integers::{Form, Integral, put_places, word_place};
 use crate::offset_tables::OffsetTable;
 use crate::tuning::NEAR_COLUMNS;
 use raw_block::array_at;

@@ -1,6 +1,6 @@
 -- Bools, read from bytes.
-use Rattle.std.specs.Prelude.{ℕ, ◌≡◌, ◌+◌, ◌/◌, ◌%◌, ◌^◌, ◌<◌, ◌≤◌, ℤ, pos, List, [], ◌∷◌, ◌++◌, map, length, get_or, take, drop, All}
-use Rattle.fancy_index.specs.Words.{digits_l, truth, LieWithin, max_items, max_bytes, run_offsets}
+use Rattle.std.specs.Prelude.{ℕ, ◌≡◌, ◌+◌, ◌/◌, ◌%◌, ◌^◌, ◌<◌, ◌≤◌, ℤ, pos, List, [], ◌∷◌, ◌++◌, map, length, get_or, take, drop, count_by, not, All}
+use Rattle.fancy_index.specs.Words.{digits_l, int_eq, truth, LieWithin, max_items, max_bytes, run_offsets}
 use Rattle.fancy_index.specs.declared.masks.Bools.{Bools}
 use Rattle.fancy_index.specs.inside.PointLists.{true_ranks}
 
@@ -15,6 +15,10 @@ bools_in bools = map (bool_at bools.bytes.now) (run_offsets bools.run)
 -- the ranks of the true bools, without the first `from` bools
 abbrev pub ranks_from : Bools → ℕ → List ℕ
 ranks_from bools from = true_ranks (bools.rank + from) (drop from (bools_in bools))
+
+-- how many numbers are not 0
+abbrev pub true_count : List ℤ → ℕ
+true_count numbers = count_by (λ number. not (int_eq number (pos 0))) numbers
 
 -- the bools from `from` up to, but not including, `end` all have this number
 abbrev pub AreAll : Bools → ℕ → ℕ → ℕ → Type 0

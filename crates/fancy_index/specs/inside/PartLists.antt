@@ -32,7 +32,7 @@ AreParts (n ∷ shape) (AxisPart (AtAxis number) ∷ parts) = (number < n) × Ar
 AreParts (n ∷ shape) (AxisPart (AlongAxis run) ∷ parts) = IsRunWithin run n × AreParts shape parts
 AreParts _ _ = ⊥
 
--- whether each number that is not read yet is within its axis
+-- whether each number of an array of integers is within its axis
 abbrev pub is_named : IndexPart → Bool
 is_named (PointsPart p) = are_named p.ranks
 is_named _ = true
@@ -48,7 +48,7 @@ pub record AddsParts (old new : List IndexPart) (axes : List ℕ) (test : Bool) 
   pub named : all_named added ≡ test
   pub show : test ≡ true → map shown_part added ≡ parts
 
--- what `parts_view` gives, or the refusal of a number that is not read yet and is out of range
+-- what `parts_view` gives, or the refusal of a number that is out of range
 abbrev pub view_if_named : List IndexPart → Result View Refusal
 view_if_named parts = check (all_named parts) IndexOutOfRange >>= λ _. parts_view (map shown_part parts)
 

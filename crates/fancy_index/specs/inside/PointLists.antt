@@ -3,7 +3,7 @@ use Rattle.std.specs.Prelude.{◌≡◌, ◌⊎◌, ◌<◌, ℕ, ◌+◌, ◌%�
 use Rattle.fancy_index.specs.Words.{list_all, int_eq, count, indexes, is_place}
 use Rattle.fancy_index.specs.declared.points.PointList.{PointList}
 use Rattle.fancy_index.specs.declared.points.Ranks.{Ranks}
-use Rattle.fancy_index.specs.declared.points.Ranks.TheVariants.{Held, Unread}
+use Rattle.fancy_index.specs.declared.points.Ranks.TheVariants.{Masked, Named, One}
 use Rattle.fancy_index.specs.inside.Items.{numbers_in}
 use Rattle.fancy_index.specs.inside.Words.{place_of}
 use Rattle.fancy_index.specs.Parts.{Part, Points}
@@ -24,14 +24,15 @@ true_ranks rank (number ∷ numbers) = if int_eq number (pos 0) then true_ranks 
 abbrev pub tuple : List ℕ → ℕ → List ℕ
 tuple axes rank = get_or (indexes axes) rank []
 
--- the ranks of points, and whether each number that is not read yet is in range
+-- the ranks of points, and whether each number is in range
 abbrev pub ranks_of : Ranks → List ℕ
-ranks_of (Held ranks) = ranks.items
-ranks_of (Unread named) = map (rank_on named.n) (numbers_in named.array)
+ranks_of (One rank) = rank ∷ []
+ranks_of (Named named) = map (rank_on named.n) (numbers_in named.array)
+ranks_of (Masked mask) = true_ranks 0 (numbers_in mask.array)
 
 abbrev pub are_named : Ranks → Bool
-are_named (Held ranks) = true
-are_named (Unread named) = list_all (is_place named.n) (numbers_in named.array)
+are_named (Named named) = list_all (is_place named.n) (numbers_in named.array)
+are_named _ = true
 
 abbrev pub shown_points : PointList → Part
 shown_points p = Points p.lengths.items (map (tuple p.axes.items) (ranks_of p.ranks))

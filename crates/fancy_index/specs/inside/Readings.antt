@@ -3,7 +3,7 @@ use Rattle.std.specs.Prelude.{◌≡◌, ◌+◌, ◌*◌, ◌-◌, ◌<◌, ◌
 use Rattle.fancy_index.specs.Words.{item_at, max_bytes}
 use Rattle.fancy_index.specs.declared.offset_tables.OffsetTable.{OffsetTable}
 use Rattle.fancy_index.specs.declared.integers.Form.{Form}
-use Rattle.fancy_index.specs.declared.integers.Named.{Named}
+use Rattle.fancy_index.specs.declared.index_arrays.Named.{Named}
 use Rattle.fancy_index.specs.inside.Tables.{IsTableOf}
 use Rattle.fancy_index.specs.inside.Words.{AreWords, word}
 

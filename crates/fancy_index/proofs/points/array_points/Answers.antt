@@ -12,8 +12,7 @@ returns-in_ok-try_new-in-Mask-clause-part c =
     let a = index_array_of c.args.array in
     let points = c.in_ok-try_new-in-Mask in
     let ranks = ap ranks_of points.ensures.ranks in
-    let same : c.len.result ≡ length (ranks_of points.field-0.ranks) = omega (arith, c.len.ensures, ap length ranks) in
-    part-of_mask (kind a) c.args.axes.now a.shape a.numbers points.field-0 (sym c.kind_of.ensures ∙ c.in-Mask.is) c.requires.covers (many c.args.array) (points.ensures.lengths ∙ ap (λ n. n ∷ []) same) points.ensures.axes (ap are_named points.ensures.ranks) (ranks ∙ c.in_ok-ranks-in-Mask.ensures)
+    part-of_mask (kind a) c.args.axes.now a.shape a.numbers points.field-0 (sym c.kind_of.ensures ∙ c.in-Mask.is) c.requires.covers (many c.args.array) (points.ensures.lengths ∙ ap (λ n. n ∷ []) (c.count_true-many.ensures ∙ ap length (sym ranks))) points.ensures.axes (ap are_named points.ensures.ranks) ranks
 
 pub returns-in_ok-try_new-in-Integers-clause-part : goal.returns-in_ok-try_new-in-Integers-clause-part
 returns-in_ok-try_new-in-Integers-clause-part c =
