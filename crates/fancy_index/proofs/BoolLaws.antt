@@ -1,6 +1,6 @@
 -- The ranks of true bools.
-use Rattle.std.proofs.Common.{◌≡◌, ◌⊎◌, inl, inr, ℕ, zero, suc, ◌+◌, ◌*◌, ◌/◌, ◌%◌, ◌^◌, ◌<◌, ◌≤◌, true, false, List, [], ◌∷◌, ◌++◌, map, length, get_or, set, take, drop, refl, sym, ap, subst, ◌∙◌, arith, append_assoc, cond, not, ℤ, pos, ◌*ℤ◌}
-use Rattle.fancy_index.proofs.Words.{flat_map, count_by-le-length, int_eq, ints, map-map, get_or-map, length-map, get_or-drop, get_or-take, drop_more, map-append, sum_by-append, sum_by-drop_more, take-set, take_more_set, item_at, Descr, Byte, Int, Bytes, item_from, truth, Run, run_offsets, length-run_offsets, ScalarDescr, RecordDescr, BoolScalar, Mask, kind_of, axes_of_kind, first_number, number_from, Bools, bool_at, bools_in, AreBits, LieInBytes, true_count, true_ranks}
+use Rattle.std.proofs.Common.{◌≡◌, ◌⊎◌, inl, inr, ℕ, zero, suc, ◌+◌, ◌*◌, ◌/◌, ◌%◌, ◌^◌, ◌<◌, ◌≤◌, true, false, List, [], ◌∷◌, ◌++◌, map, length, get_or, set, take, drop, refl, sym, ap, subst, ◌∙◌, arith, append-nil, append_assoc, cond, not, ℤ, pos, ◌*ℤ◌}
+use Rattle.fancy_index.proofs.Words.{flat_map, count_by-le-length, int_eq, ints, map-map, get_or-map, length-map, length-set, drop_all, get_or-drop, get_or-take, drop_more, map-append, sum_by-append, sum_by-cons, sum_by-drop_more, take-set, take_more_set, item_at, Descr, Byte, Int, Bytes, Items, item_from, items, numbers_in, offsets, truth, Run, run_offsets, length-run_offsets, ScalarDescr, RecordDescr, BoolScalar, Mask, kind_of, axes_of_kind, first_number, number_from, Bools, bool_at, bools_in, ArePut, LieInBytes, ranks_from, true_count, true_ranks}
 use Rattle.fancy_index.proofs.RunLaws.{lies-there}
 
 -- ---- the bools of a mask
@@ -27,9 +27,9 @@ pub numbers-are : (descr : Descr) (block offsets : List ℕ) → descr ≡ Scala
 numbers-are descr block offsets is = λ i. map (λ offset. number-bool descr block offset is i) offsets
 
 -- if items are the same, so are their numbers
-pub numbers-same : (descr descr' : Descr) (block block' os os' : List ℕ) → map (item_from descr block) os ≡ map (item_from descr' block') os' → map (number_from descr block) os ≡ map (number_from descr' block') os'
-numbers-same descr descr' block block' os os' same =
-    sym (map-map first_number (item_from descr block) os) ∙ ap (map first_number) same ∙ map-map first_number (item_from descr' block') os'
+pub numbers-same : (read mask : Items) → items read ≡ items mask → numbers_in read ≡ numbers_in mask
+numbers-same read mask same =
+    sym (map-map first_number (item_from read.descr.now read.block.now) (offsets read.layout.now)) ∙ ap (map first_number) same ∙ map-map first_number (item_from mask.descr.now mask.block.now) (offsets mask.layout.now)
 
 -- ---- their ranks
 
@@ -57,11 +57,11 @@ true_ranks-append (number ∷ front) back rank =
 -- as many as there are true bools
 pub length-true_ranks : (numbers : List ℤ) (rank : ℕ) → length (true_ranks rank numbers) ≡ true_count numbers
 length-true_ranks [] rank = refl
-length-true_ranks (number ∷ numbers) rank = by (int_eq number (pos 0)) refl
+length-true_ranks (number ∷ numbers) rank = by (length-true_ranks numbers (rank + 1)) (int_eq number (pos 0)) refl ∙ sym (sum_by-cons (λ number. cond (not (int_eq number (pos 0))) 1 0) number numbers)
   where
-    by : (zero' : _) → int_eq number (pos 0) ≡ zero' → length (true_ranks rank (number ∷ numbers)) ≡ true_count (number ∷ numbers)
-    by true is = rw is (length-true_ranks numbers (rank + 1))
-    by false is = rw is (omega (arith, length-true_ranks numbers (rank + 1)))
+    by : length (true_ranks (rank + 1) numbers) ≡ true_count numbers → (zero' : _) → int_eq number (pos 0) ≡ zero' → length (true_ranks rank (number ∷ numbers)) ≡ cond (not (int_eq number (pos 0))) 1 0 + true_count numbers
+    by later true is = rw is (omega (arith, later))
+    by later false is = rw is (omega (arith, later))
 
 pub few-true : (numbers : List ℤ) → true_count numbers ≤ length numbers
 few-true numbers = count_by-le-length (λ number. not (int_eq number (pos 0))) numbers
@@ -142,20 +142,56 @@ module _ (bools : Bools) (lie : LieInBytes bools) (one : bools.run.step ≡ pos 
   pub bool-after : get_or (bools_in bools) k (pos 0) ≡ bool_at bools.bytes.now (bools.run.offset + k)
   bool-after = bool-there bools k (bools.run.offset + k) low offset-after
 
--- ---- sixteen bools at once
-
--- adjacent bools that were loaded together, and are the bits of a number
-pub loaded-bits : (bools : Bools) → LieInBytes bools → bools.run.step ≡ pos 1 → (at n number : ℕ) (loaded : List ℕ) → loaded ≡ item_at (bools.run.offset + at) n bools.bytes.now → at + n ≤ bools.run.count → ((k : ℕ) → k < n → number / 2 ^ k % 2 ≡ truth (get_or loaded k 0)) →
-    AreBits bools at n number
-loaded-bits bools lie one at n number loaded is fits are k low =
-    let bytes = bools.bytes.now in
+-- one of adjacent bools that were loaded together
+pub bool-loaded : (bools : Bools) → LieInBytes bools → bools.run.step ≡ pos 1 → (at n k : ℕ) → at + n ≤ bools.run.count → k < n → get_or (bools_in bools) (at + k) (pos 0) ≡ pos (truth (get_or (item_at (bools.run.offset + at) n bools.bytes.now) k 0))
+bool-loaded bools lie one at n k fits low =
     let start = bools.run.offset + at in
     let there : bools.run.offset + (at + k) ≡ start + k = omega arith in
-    let byte : get_or loaded k 0 ≡ get_or bytes (start + k) 0 = ap (λ l. get_or l k 0) is ∙ get_or-take n (drop start bytes) k 0 low ∙ get_or-drop start bytes k 0 in
     bool-after bools lie one (at + k) (omega (arith, low, fits))
-    ∙ ap (λ place. pos (truth (get_or bytes place 0))) there
-    ∙ ap (λ b. pos (truth b)) (sym byte)
-    ∙ ap pos (sym (are k low))
+    ∙ ap (λ place. pos (truth (get_or bools.bytes.now place 0))) there
+    ∙ ap (λ byte. pos (truth byte)) (sym (get_or-take n (drop start bools.bytes.now) k 0 low ∙ get_or-drop start bools.bytes.now k 0))
+
+-- ---- ranks that are written
+
+module _ (bools : Bools) (from many : ℕ) (old : List ℕ) where
+  pub put_none : ArePut bools from many old from many old
+  put_none = record { len = refl; left = refl; found = λ whole before. before }
+
+  -- one more bool
+  pub put_more : (k next : ℕ) (new : List ℕ) (t : ℕ) → ArePut bools from many old k next new → many + length (ranks_from bools from) < length old → k < bools.run.count → t ≤ 1 → get_or (bools_in bools) k (pos 0) ≡ pos t →
+      ArePut bools from many old (k + 1) (next + t) (set new next (bools.rank + k))
+  put_more k next new t put room low few is =
+      let numbers = bools_in bools in
+      let inside : k < length numbers = omega (arith, low, length-bools bools) in
+      record {
+        len = length-set new next (bools.rank + k) ∙ put.len;
+        left = omega (arith, counted numbers next k t few inside is, length-true_ranks (drop k numbers) (bools.rank + k), length-true_ranks (drop (k + 1) numbers) (bools.rank + (k + 1)), put.left);
+        found = λ whole before. noted numbers new whole bools.rank next k t few inside (omega (arith, put.left, put.len, room)) is (put.found whole before);
+      }
+
+  -- bools that are all false are passed over
+  pub put_over : (n : ℕ) → from + n ≤ bools.run.count → ((j : ℕ) → from ≤ j → j < from + n → get_or (bools_in bools) j (pos 0) ≡ pos 0) → ArePut bools from many old (from + n) many old
+  put_over n fits none =
+      let same = none_true (bools_in bools) bools.rank from n (omega (arith, fits, length-bools bools)) none in
+      record { len = refl; left = ap (λ l. many + length l) (sym same); found = λ whole before. ap (λ l. take many old ++ l) (sym same) ∙ before }
+
+  -- and then others
+  pub put_then : (at next : ℕ) (new : List ℕ) (end last : ℕ) (newer : List ℕ) → ArePut bools from many old at next new → ArePut bools at next new end last newer → ArePut bools from many old end last newer
+  put_then at next new end last newer put more = record { len = more.len ∙ put.len; left = more.left ∙ put.left; found = λ whole before. more.found whole (put.found whole before) }
+
+-- all bools of a run
+module _ (bools : Bools) (many : ℕ) (old : List ℕ) (next : ℕ) (new : List ℕ) (put : ArePut bools 0 many old bools.run.count next new) where
+  from-first : ranks_from bools 0 ≡ true_ranks bools.rank (bools_in bools)
+  from-first = ap (λ r. true_ranks r (bools_in bools)) (omega arith)
+
+  from-last : ranks_from bools bools.run.count ≡ []
+  from-last = ap (true_ranks (bools.rank + bools.run.count)) (drop_all bools.run.count (bools_in bools) (omega (arith, length-bools bools)))
+
+  pub put_all : take next new ≡ take many old ++ true_ranks bools.rank (bools_in bools)
+  put_all = sym (append-nil (take next new)) ∙ ap (λ l. take next new ++ l) (sym from-last) ∙ put.found _ refl ∙ ap (λ l. take many old ++ l) from-first
+
+  pub all_left : next ≡ many + length (true_ranks bools.rank (bools_in bools))
+  all_left = omega (arith, put.left, ap length from-first, ap length from-last)
 
 -- the ranks that were found are appended
 pub found_added : (ranks ranks' found whole later later' : List ℕ) → ranks' ≡ ranks ++ found → found ++ later' ≡ later → ranks ++ later ≡ whole → ranks' ++ later' ≡ whole

@@ -10,7 +10,6 @@ pub mod SingleLaws
 pub mod NumberLoops
 pub mod WordLaws
 pub mod BoolLaws
-pub mod FourLaws
 pub mod PointLaws
 pub mod PartLaws
 pub mod IndexedLaws

@@ -17,21 +17,20 @@ pub use Rattle.fancy_index.specs.declared.kinds.Kind.{Kind}
 pub use Rattle.fancy_index.specs.declared.kinds.Kind.TheVariants.{Integers, Mask}
 pub use Rattle.fancy_index.specs.declared.masks.Bools.{Bools}
 pub use Rattle.fancy_index.specs.declared.masks.RunAt.{RunAt}
-pub use Rattle.fancy_index.specs.declared.masks.TheConstants.{COUNTS, PLACES}
 pub use Rattle.fancy_index.specs.declared.plan_rows.Shifted.{Shifted}
 pub use Rattle.fancy_index.specs.declared.points.PointList.{PointList}
 pub use Rattle.fancy_index.specs.declared.integers.Form.{Form}
 pub use Rattle.fancy_index.specs.declared.result_axes.Stretch.{Stretch}
 pub use Rattle.fancy_index.specs.declared.result_axes.Stretch.TheVariants.{After, Among, Before}
 pub use Rattle.fancy_index.specs.declared.short_rows.ShortRows.{ShortRows}
-pub use Rattle.fancy_index.specs.inside.Bools.{AreAll, AreBits, LieInBytes, bits, bool_at, bools_in, ranks_from, true_count}
-pub use Rattle.fancy_index.specs.inside.Items.{IsOutside, IsWithin}
+pub use Rattle.fancy_index.specs.inside.Bools.{ArePut, LieInBytes, bool_at, bools_in, ranks_from, true_count}
+pub use Rattle.fancy_index.specs.inside.Items.{IsOutside, IsWithin, numbers_in, true_ranks}
 pub use Rattle.fancy_index.specs.inside.Kept.{AreWide, CanAppend, CanScatter, HaveAppended, end_of, first_offsets, moved_offsets, offsets_from, put_packed, row_at, shifted_offsets, short_offsets}
 pub use Rattle.fancy_index.specs.inside.Lists.{IsNext, items_left}
 pub use Rattle.fancy_index.specs.inside.Moved.{AreStarts, IsMoved, IsRunOf, IsStart, moved_all, moved_offset, shifted, shifted_all}
 pub use Rattle.fancy_index.specs.inside.PartLists.{AddsParts, AreParts, HasPointAt, IsChecked, IsReady, IsReadyAt, IsRest, LeadInto, all_named, first_at, first_offset, is_named, numbers_at, point_of, rest_picks, shown_part, view_if_named}
 pub use Rattle.fancy_index.specs.inside.Places.{stand}
-pub use Rattle.fancy_index.specs.inside.PointLists.{HavePlaces, IsPart, are_named, rank_on, ranks_of, true_ranks, tuple}
+pub use Rattle.fancy_index.specs.inside.PointLists.{HavePlaces, IsPart, are_named, rank_on, ranks_of, tuple}
 pub use Rattle.fancy_index.specs.inside.Ranks.{IsAtRun, led}
 pub use Rattle.fancy_index.specs.inside.Sums.{AllCanGrow, AreSums, BeginAt, BeginsAt, CanGrow, CanGrowAlong, HaveAllGrown, HaveGrown, HaveGrownFrom, number_along, offset_along, part_offset, partly, point_number, start_of, starts, stretched_ranks, strides_along}
 pub use Rattle.fancy_index.specs.inside.Words.{ArePlaces, IsNative, IsPlaceOf, LiesIn, named_places, place_of, word, words_along}
@@ -49,7 +48,7 @@ pub use Rattle.std.proofs.lemmas.List.Edits.{map_over_more}
 pub use Rattle.std.proofs.lemmas.List.Elements.{All-cons, All-drop, All-get_or, All-head, All-map, All-nil, All-rest, All-tail, All-take}
 pub use Rattle.std.proofs.lemmas.List.Folds.{drop_split, flat_map-map, length-flat_map-take, list_all-append, list_all_at, list_all_more}
 pub use Rattle.std.proofs.lemmas.List.FromFn.{get_or-map-range_with_len, get_or-range_with_len, length-map-range_with_len}
-pub use Rattle.std.proofs.lemmas.List.Sums.{count_by-le-length, sum_by-append, sum_by-drop_more}
+pub use Rattle.std.proofs.lemmas.List.Sums.{count_by-le-length, sum_by-append, sum_by-cons, sum_by-drop_more}
 pub use Rattle.std.proofs.lemmas.Nat.{div-add-mod', div-mul-add, pow-add}
 pub use Rattle.std.proofs.lemmas.Result.{IfOk-weaker, err_from_is_err_and}
 pub use Rattle.std.proofs.lemmas.Simd.{Each1-get_or, bit_mask_l, bitmask_splat, map-map, put_chunk_is, splat_is_map, zip2_of_maps}

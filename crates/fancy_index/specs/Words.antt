@@ -53,7 +53,6 @@ pub use Rattle.shape_strides.specs.declared.layout.Layout.{Layout}
 pub use Rattle.shape_strides.specs.declared.runs.Run.{Run}
 pub use Rattle.std.specs.List.{flat_map, list_all, list_any}
 pub use Rattle.std.specs.Ordering.{int_eq}
-pub use Rattle.std.specs.Simd.Lanes.{digits_l}
 pub use Rattle.std.specs.Str.{bytes_eq}
 pub use Rattle.view_ops.specs.Basics.{Along, At, New, Pick, Placed, axis_of, has_step, is_on_axis, picked_index, picked_shape, picks_of, whole}
 unfoldable pub use Rattle.view_ops.specs.Basics.{picked_view, shape_picked}

@@ -1,8 +1,8 @@
 //! Index arrays of a known kind: integers, with the axis that they index, and masks.
-ghost use Rattle.std.specs.Prelude.{◌≡◌, ◌≤◌};
+ghost use Rattle.std.specs.Prelude.{◌≡◌, ◌≤◌, length};
 ghost use Rattle.fancy_index.specs.Words.{max_items};
 ghost use Rattle.fancy_index.specs.declared.kinds.Kind.TheVariants.{Integers, Mask};
-ghost use Rattle.fancy_index.specs.inside.Items.{kind_in};
+ghost use Rattle.fancy_index.specs.inside.Items.{kind_in, numbers_in, true_ranks};
 
 use arrays::Items;
 
@@ -21,4 +21,5 @@ pub(crate) struct BoolMask<'a> {
     pub array: Items<'a>,
     pub many: usize,
     pub ghost kind: { kind_in array ≡ Mask },
+    pub ghost count: { many ≡ length (true_ranks 0 (numbers_in array)) },
 }

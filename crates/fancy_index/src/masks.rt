@@ -1,6 +1,6 @@
 //! Masks: how many of their items are true, the ranks of these, and the offsets of these ranks.
-ghost use Rattle.std.specs.Prelude.{All, IfOk, IfSome, IsTrue, List, OnOk, [], drop, get_or, length, pos, replicate, slice_index, take, ℕ, ◌++◌, ◌+◌, ◌<◌, ◌∷◌, ◌≡◌, ◌≤◌, ◌*ℤ◌, ◌/◌, ◌%◌, ◌^◌};
-ghost use Rattle.fancy_index.specs.Clauses.{LieWithin, count, items, max_bytes, max_items, offsets, owned_items, run_offsets, truth, Mask, AreAll, AreNoted, IsBlock, LieInBytes, bits, bools_in, ranks_from, true_count, kind_in, numbers_in, true_ranks, IsAtRun, led};
+ghost use Rattle.std.specs.Prelude.{All, IfOk, IfSome, [], drop, get_or, length, pos, slice_index, take, ℕ, ◌+◌, ◌<◌, ◌∷◌, ◌≡◌, ◌≤◌, ◌*ℤ◌, ◌/◌, ◌%◌, ◌^◌};
+ghost use Rattle.fancy_index.specs.Clauses.{LieWithin, count, items, max_bytes, max_items, offsets, owned_items, run_offsets, truth, Mask, ArePut, LieInBytes, bools_in, ranks_from, true_count, kind_in, numbers_in, true_ranks, IsAtRun, led};
 
 use crate::index_arrays::BoolMask;
 use arrays::{Items, Owned, copy};
@@ -27,55 +27,23 @@ fn truth(byte: u8) -> usize
     (byte != 0) as usize
 }
 
-/// Writes the ranks of the true bools in a range after the first `many` ranks, and returns how many
-/// there are then. Each rank is written, and stays if its bool is true, so there is no branch.
-fn note_true(
-    found: &mut [u32; 512],
-    many: usize,
-    bools: Bools<'_>,
-    from: usize,
-    end: usize,
-) -> usize
+/// Writes the ranks of the true bools in a range from place `many` on, and returns the place after
+/// them. Each rank is written, and stays if its bool is true, so there is no branch.
+#[inline(always)]
+fn put_true(ranks: &mut [u32], many: usize, bools: Bools<'_>, from: usize, end: usize) -> usize
     requires lie { LieInBytes bools }
-    requires end { end ≤ bools.run.count }
-    requires few { many + end ≤ from + 512 }
     requires order { from ≤ end }
-    ensures many { result + from ≤ many + end }
-    ensures found { (whole : List ℕ) → take many found.old ++ ranks_from bools.entry from ≡ whole
-        → take result found.new ++ ranks_from bools.entry end ≡ whole }
+    requires end { end ≤ bools.run.count }
+    requires room { many + length (ranks_from bools from) < length ranks.old }
+    ensures { ArePut bools.entry from many ranks.old end result ranks.new }
 {
     let mut many = many;
     for k in from..end {
-        found[many] = (bools.rank + k) as u32;
+        ranks[many] = (bools.rank + k) as u32;
         many += truth(bools.bytes[bools.run.offset_after(k)]);
     }
     many
 }
-
-/// The places of the true ones among four bools, and then zeros. The row of four bools is the
-/// number that has them as its bits, the first one as the lowest. A constant would be copied at
-/// each use.
-static PLACES: [[u8; 4]; 16] = [
-    [0, 0, 0, 0],
-    [0, 0, 0, 0],
-    [1, 0, 0, 0],
-    [0, 1, 0, 0],
-    [2, 0, 0, 0],
-    [0, 2, 0, 0],
-    [1, 2, 0, 0],
-    [0, 1, 2, 0],
-    [3, 0, 0, 0],
-    [0, 3, 0, 0],
-    [1, 3, 0, 0],
-    [0, 1, 3, 0],
-    [2, 3, 0, 0],
-    [0, 2, 3, 0],
-    [1, 2, 3, 0],
-    [0, 1, 2, 3],
-];
-
-/// How many of the four bools of a row are true.
-static COUNTS: [usize; 16] = [0, 1, 1, 2, 1, 2, 2, 3, 1, 2, 2, 3, 2, 3, 3, 4];
 
 /// The number that has sixteen bools as its bits, the first one as the lowest.
 #[inline(always)]
@@ -85,147 +53,66 @@ fn bits_of(bools: u8x16) -> usize
     bools.simd_ne(u8x16::splat(0)).to_bitmask() as usize
 }
 
-/// Writes the ranks of the true bools of a row after the first `many` ranks, and returns how many
-/// there are then. Each lane of `first` is the rank of the first bool. Four ranks are written, and
-/// those of true bools stay, so there is no branch.
+/// The same for sixteen adjacent bools, which are passed over at once if all are false.
 #[inline(always)]
-fn note_four(found: &mut [u32], many: usize, row: usize, first: u32x4) -> usize
-    requires few { many + 4 ≤ length found.old }
-    requires row { row < 16 }
-    ensures many { result ≤ many + 4 }
-    ensures found { (rank : ℕ) → first ≡ replicate 4 rank → rank + 4 ≤ max_items
-        → take result found.new ≡ take many found.old ++ true_ranks rank (bits 4 row) }
-{
-    let ranks = u8x4::from_array(PLACES[row]).cast::<u32>() + first;
-    ranks.copy_to_slice(&mut found[many..]);
-    many + COUNTS[row]
-}
-
-/// Writes the ranks of the true ones among sixteen adjacent bools, unless all are false, after the
-/// first `many` ranks, and returns how many there are then.
-#[inline(always)]
-fn note_sixteen(found: &mut [u32; 512], many: usize, bools: Bools<'_>, at: usize) -> usize
+fn put_sixteen(ranks: &mut [u32], many: usize, bools: Bools<'_>, at: usize) -> usize
     requires lie { LieInBytes bools }
     requires adjacent { bools.run.step ≡ pos 1 }
     requires end { at + 16 ≤ bools.run.count }
-    requires few { many + 16 ≤ 512 }
-    ensures many { result ≤ many + 16 }
-    ensures found { (whole : List ℕ) → take many found.old ++ ranks_from bools.entry at ≡ whole
-        → take result found.new ++ ranks_from bools.entry (at + 16) ≡ whole }
+    requires room { many + length (ranks_from bools at) < length ranks.old }
+    ensures { ArePut bools.entry at many ranks.old (at + 16) result ranks.new }
 {
     let loaded = array_at::<16>(bools.bytes, bools.run.offset + at);
-    let mut bits = bits_of(u8x16::from_array(loaded));
+    let bits = bits_of(u8x16::from_array(loaded));
     if bits == 0 {
         return many;
     }
-    let mut many = many;
-    let mut first = u32x4::splat((bools.rank + at) as u32);
-    for _ in 0..4usize {
-        many = note_four(found, many, bits % 16, first);
-        first += u32x4::splat(4);
-        bits /= 16;
-    }
-    many
+    put_true(ranks, many, bools, at, at + 16)
 }
 
-/// Writes the ranks of the true ones among adjacent bools. Sixteen that are all false are passed over
-/// at once.
-fn note_adjacent(found: &mut [u32; 512], bools: Bools<'_>, from: usize, end: usize) -> usize
-    requires block { IsBlock bools from end }
-    requires adjacent { bools.run.step ≡ pos 1 }
-    ensures { AreNoted bools.entry from end found.new result }
+/// The same for all bools of a run.
+fn put_run(ranks: &mut [u32], many: usize, bools: Bools<'_>) -> usize
+    requires lie { LieInBytes bools }
+    requires room { many + length (ranks_from bools 0) < length ranks.old }
+    ensures { ArePut bools.entry 0 many ranks.old bools.entry.run.count result ranks.new }
 {
-    let mut many = 0;
-    let mut at = from;
-    while end - at >= 16 {
-        many = note_sixteen(found, many, bools, at);
+    let mut many = many;
+    let mut at = 0;
+    while bools.run.count - at >= 16 && bools.run.step == 1 {
+        many = put_sixteen(ranks, many, bools, at);
         at += 16;
     }
-    note_true(found, many, bools, at, end)
+    put_true(ranks, many, bools, at, bools.run.count)
 }
 
-/// Writes the ranks of the bools in a range, which are all true.
-fn note_all(found: &mut [u32; 512], bools: Bools<'_>, from: usize, end: usize) -> usize
-    requires block { IsBlock bools from end }
-    requires all { AreAll bools from end 1 }
-    ensures { AreNoted bools.entry from end found.new result }
-{
-    let mut rank = (bools.rank + from) as u32;
-    for k in from..end {
-        found[k - from] = rank;
-        rank += 1;
-    }
-    end - from
-}
-
-/// Whether the bytes of a range are all the same.
-fn are_same(bytes: &[u8], from: usize, end: usize) -> bool
-    requires { end ≤ length bytes.now }
-    ensures { IsTrue result → (k : ℕ) → from ≤ k → k < end
-        → get_or bytes.now k 0 ≡ get_or bytes.now from 0 }
-{
-    let mut same = true;
-    for k in from..end {
-        same &= bytes[k] == bytes[from];
-    }
-    same
-}
-
-/// Writes the ranks of the true bools of a block. If the bools are adjacent, and all of them or
-/// none of them are true, they are not looked at one by one.
-fn note_block(found: &mut [u32; 512], bools: Bools<'_>, from: usize, end: usize) -> usize
-    requires block { IsBlock bools from end }
-    requires some { from < end }
-    ensures { AreNoted bools.entry from end found.new result }
-{
-    let Run { offset, step, .. } = bools.run;
-    if step != 1 {
-        return note_true(found, 0, bools, from, end);
-    }
-    let first = offset + from;
-    if !are_same(bools.bytes, first, offset + end) {
-        note_adjacent(found, bools, from, end)
-    } else if bools.bytes[first] == 0 {
-        0
-    } else {
-        note_all(found, bools, from, end)
-    }
-}
-
-/// Adds the ranks of the true bools, block by block.
-fn push_true(
-    ranks: &mut Vec<u32>,
-    found: &mut [u32; 512],
-    bools: Bools<'_>,
-) -> Result<(), AllocError>
-    requires { LieInBytes bools }
-    ensures { let more = true_ranks bools.entry.rank (bools_in bools.entry) in
-        OnOk result (ranks.new.items ≡ ranks.old.items ++ more) }
-{
-    let mut from = 0;
-    while from < bools.run.count {
-        let end = bools.run.count.min(from + 512);
-        let many = note_block(found, bools, from, end);
-        ranks.extend_from_slice(&found[..many])?;
-        from = end;
-    }
-    Ok(())
-}
-
-/// The ranks at which a mask is true, read in place, in a list that has room for `many`.
-fn ranks_in(alloc: Global, mask: Items<'_>, many: usize) -> Result<Vec<u32>, AllocError>
+/// Writes the ranks at which a mask is true, read in place. The last place is for the ranks of false
+/// bools after the last true one.
+fn put_ranks(ranks: &mut [u32], mask: Items<'_>)
     requires kind { kind_in mask ≡ Mask }
-    ensures { IfOk result (λ v. v.items ≡ true_ranks 0 (numbers_in mask.entry)) }
+    requires len { length ranks.old ≡ length (true_ranks 0 (numbers_in mask)) + 1 }
+    ensures { let whole = true_ranks 0 (numbers_in mask.entry) in
+        take (length whole) ranks.new ≡ whole }
 {
     let _items = mask.layout.shape.items();
     let bytes = mask.block.bytes();
-    let mut ranks = Vec::with_capacity(alloc, many)?;
-    let mut found = [0; 512];
+    let mut many = 0;
     let mut rank = 0;
     for run in Runs::new(mask.layout) {
-        push_true(&mut ranks, &mut found, Bools { bytes, run, rank })?;
+        many = put_run(ranks, many, Bools { bytes, run, rank });
         rank += run.count;
     }
+}
+
+/// The ranks at which a mask is true, read in place. So many are true.
+fn ranks_in(alloc: Global, mask: Items<'_>, many: usize) -> Result<Vec<u32>, AllocError>
+    requires kind { kind_in mask ≡ Mask }
+    requires many { many ≡ length (true_ranks 0 (numbers_in mask)) }
+    ensures { IfOk result (λ v. v.items ≡ true_ranks 0 (numbers_in mask.entry)) }
+{
+    let _items = mask.layout.shape.items();
+    let mut ranks = vec![in alloc; 0u32; many + 1]?;
+    put_ranks(ranks.as_mut_slice(), mask);
+    ranks.truncate(many);
     Ok(ranks)
 }
 
@@ -241,7 +128,8 @@ fn count_few(bools: Bools<'_>, from: usize, end: usize) -> u8
 {
     let mut many = 0;
     for k in from..end {
-        many += truth(bools.bytes[bools.run.offset_after(k)]) as u8;
+        let one = truth(bools.bytes[bools.run.offset_after(k)]);
+        many += one as u8;
     }
     many
 }
@@ -269,7 +157,10 @@ fn count_run(bools: Bools<'_>) -> usize
 {
     match bools.run.step {
         1 => {
-            let run = Run { step: 1, ..bools.run };
+            let run = Run {
+                step: 1,
+                ..bools.run
+            };
             count_blocks(Bools { run, ..bools })
         }
         _ => count_blocks(bools),

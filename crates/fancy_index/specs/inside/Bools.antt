@@ -1,8 +1,8 @@
 -- Bools, read from bytes.
-use Rattle.std.specs.Prelude.{ℕ, ◌≡◌, ◌+◌, ◌/◌, ◌%◌, ◌^◌, ◌<◌, ◌≤◌, ℤ, pos, List, [], ◌∷◌, ◌++◌, map, length, get_or, take, drop, count_by, not, All}
-use Rattle.fancy_index.specs.Words.{digits_l, int_eq, truth, LieWithin, max_items, max_bytes, run_offsets}
+use Rattle.std.specs.Prelude.{ℕ, ◌≡◌, ◌+◌, ◌<◌, ◌≤◌, ℤ, pos, List, [], ◌∷◌, ◌++◌, map, length, get_or, take, drop, count_by, not, All}
+use Rattle.fancy_index.specs.Words.{int_eq, truth, LieWithin, max_items, max_bytes, run_offsets}
 use Rattle.fancy_index.specs.declared.masks.Bools.{Bools}
-use Rattle.fancy_index.specs.inside.PointLists.{true_ranks}
+use Rattle.fancy_index.specs.inside.Items.{true_ranks}
 
 -- the bool in the byte at an offset: 0 or 1
 abbrev pub bool_at : List ℕ → ℕ → ℤ
@@ -20,32 +20,15 @@ ranks_from bools from = true_ranks (bools.rank + from) (drop from (bools_in bool
 abbrev pub true_count : List ℤ → ℕ
 true_count numbers = count_by (λ number. not (int_eq number (pos 0))) numbers
 
--- the bools from `from` up to, but not including, `end` all have this number
-abbrev pub AreAll : Bools → ℕ → ℕ → ℕ → Type 0
-AreAll bools from end number = (k : ℕ) → from ≤ k → k < end → get_or (bools_in bools) k (pos 0) ≡ pos number
-
--- the `n` lowest bits of a number, the lowest first
-abbrev pub bits : ℕ → ℕ → List ℤ
-bits n number = map (λ bit. pos bit) (digits_l 2 n number)
-
--- the `n` bools from `from` on are the lowest bits of a number
-abbrev pub AreBits : Bools → ℕ → ℕ → ℕ → Type 0
-AreBits bools from n number = (k : ℕ) → k < n → get_or (bools_in bools) (from + k) (pos 0) ≡ pos (number / 2 ^ k % 2)
-
 -- the bools lie within their bytes, and their ranks are within the limit
 pub record LieInBytes (bools : Bools) : Type 0 where
   pub few : bools.rank + bools.run.count ≤ max_items
   pub limit : LieWithin (bools.run.count ∷ []) (bools.run.step ∷ []) bools.run.offset max_bytes 1
   pub inside : All (λ offset. offset < length bools.bytes.now) (run_offsets bools.run)
 
--- at most 512 bools, from `from` up to, but not including, `to`
-pub record IsBlock (bools : Bools) (from to : ℕ) : Type 0 where
-  pub lie : LieInBytes bools
-  pub order : from ≤ to
-  pub end : to ≤ bools.run.count
-  pub few : to ≤ from + 512
-
--- the first `many` numbers in `found` are the ranks of the true ones among these bools
-pub record AreNoted (bools : Bools) (from end : ℕ) (found : List ℕ) (many : ℕ) : Type 0 where
-  pub few : many ≤ 512
-  pub ranks : take many found ++ ranks_from bools end ≡ ranks_from bools from
+-- The ranks of the true ones among the bools from `from` up to, but not including, `end` are written from place `many` on,
+-- and `next` is the place after them.
+pub record ArePut (bools : Bools) (from many : ℕ) (old : List ℕ) (end next : ℕ) (new : List ℕ) : Type 0 where
+  pub len : length new ≡ length old
+  pub left : next + length (ranks_from bools end) ≡ many + length (ranks_from bools from)
+  pub found : (whole : List ℕ) → take many old ++ ranks_from bools from ≡ whole → take next new ++ ranks_from bools end ≡ whole

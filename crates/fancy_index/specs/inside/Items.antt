@@ -1,6 +1,6 @@
 -- Items of an index list, with their arrays.
-use Rattle.std.specs.Prelude.{◌≡◌, ◌⊎◌, ℕ, ℤ, List, Bool, Result, Err}
-use Rattle.fancy_index.specs.Words.{Refusal, OutOfMemory, IndexOutOfRange, Gives, check, IndexItem, Array, Items}
+use Rattle.std.specs.Prelude.{◌≡◌, ◌⊎◌, ℕ, ◌+◌, ℤ, pos, List, [], ◌∷◌, Bool, if◌then◌else◌, Result, Err}
+use Rattle.fancy_index.specs.Words.{Refusal, OutOfMemory, IndexOutOfRange, Gives, check, int_eq, IndexItem, Array, Items}
 use Rattle.fancy_index.specs.declared.kinds.Kind.{Kind}
 use Rattle.fancy_index.specs.IndexArrays.{IndexArray, kind, array_axes_taken}
 use Rattle.fancy_index.specs.Sources.{index_array_of, index_items}
@@ -11,6 +11,11 @@ kind_in a = kind (index_array_of a)
 
 abbrev pub numbers_in : Items → List ℤ
 numbers_in a = (index_array_of a).numbers
+
+-- the ranks of the numbers that are not 0, if the rank of the first number is `rank`
+abbrev pub true_ranks : ℕ → List ℤ → List ℕ
+true_ranks rank [] = []
+true_ranks rank (number ∷ numbers) = if int_eq number (pos 0) then true_ranks (rank + 1) numbers else rank ∷ true_ranks (rank + 1) numbers
 
 abbrev pub array_item : Items → IndexItem IndexArray
 array_item a = Array (index_array_of a)

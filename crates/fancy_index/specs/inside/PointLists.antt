@@ -1,10 +1,10 @@
 -- Points as the code stores them: by their ranks along their axes.
-use Rattle.std.specs.Prelude.{◌≡◌, ◌⊎◌, ◌<◌, ℕ, ◌+◌, ◌%◌, Bool, true, if◌then◌else◌, ℤ, pos, List, [], ◌∷◌, map, length, get_or, All}
-use Rattle.fancy_index.specs.Words.{list_all, int_eq, count, indexes, is_place}
+use Rattle.std.specs.Prelude.{◌≡◌, ◌⊎◌, ◌<◌, ℕ, ◌%◌, Bool, true, ℤ, List, [], ◌∷◌, map, length, get_or, All}
+use Rattle.fancy_index.specs.Words.{list_all, count, indexes, is_place}
 use Rattle.fancy_index.specs.declared.points.PointList.{PointList}
 use Rattle.fancy_index.specs.declared.points.Ranks.{Ranks}
 use Rattle.fancy_index.specs.declared.points.Ranks.TheVariants.{Masked, Named, One}
-use Rattle.fancy_index.specs.inside.Items.{numbers_in}
+use Rattle.fancy_index.specs.inside.Items.{numbers_in, true_ranks}
 use Rattle.fancy_index.specs.inside.Words.{place_of}
 use Rattle.fancy_index.specs.Parts.{Part, Points}
 
@@ -14,11 +14,6 @@ rank_on n at = place_of n at % n
 
 abbrev pub HavePlaces : ℕ → List ℤ → Type 0
 HavePlaces n numbers = (0 < n) ⊎ (numbers ≡ [])
-
--- the ranks of the numbers that are not 0, if the rank of the first number is `rank`
-abbrev pub true_ranks : ℕ → List ℤ → List ℕ
-true_ranks rank [] = []
-true_ranks rank (number ∷ numbers) = if int_eq number (pos 0) then true_ranks (rank + 1) numbers else rank ∷ true_ranks (rank + 1) numbers
 
 -- the index with a rank
 abbrev pub tuple : List ℕ → ℕ → List ℕ

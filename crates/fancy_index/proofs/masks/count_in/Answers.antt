@@ -1,13 +1,13 @@
-use Rattle.std.proofs.Common.{rules, ◌≡◌, length, map, All, sym, ap, subst, ◌∙◌, arith}
+use Rattle.std.proofs.Common.{rules, ◌≡◌, map, All, sym, ap, subst, ◌∙◌, arith}
 use Rattle.fancy_index.proofs.Words.{flat_map, All-rest, item_size, max_bytes, offsets, length-map, length-offsets, run_offsets, bool_at, true_count, LiesIn}
 use Rattle.fancy_index.proofs.BoolLaws.{mask-bool, numbers-are, few-true, run_counted}
 use Rattle.fancy_index.proofs.WordLaws.{runs-lie}
 use Rattle.fancy_index.proofs.masks.count_in.Goals as goal
-use Rattle.fancy_index.proofs.masks.count_in.Goals.{After-count_run}
+use Rattle.fancy_index.proofs.masks.count_in.Goals.{After-count_run-many}
 
 -- the bools of this run are counted
-here : (c : After-count_run) → c.count_run.result ≡ true_count (map (bool_at c.args.mask.block.now) (run_offsets c.in-Some.run'))
-here c = c.count_run.ensures ∙ λ i. true_count (map (bool_at (c.bytes-bytes.ensures i)) (run_offsets c.in-Some.run'))
+here : (c : After-count_run-many) → c.count_run-many.result ≡ true_count (map (bool_at c.args.mask.block.now) (run_offsets c.in-Some.run'))
+here c = c.count_run-many.ensures ∙ λ i. true_count (map (bool_at (c.bytes-bytes.ensures i)) (run_offsets c.in-Some.run'))
 
 pub loop-run-init : goal.loop-run-init
 loop-run-init c =
@@ -17,25 +17,14 @@ loop-run-init c =
     let all : flat_map run_offsets c.into_iter-run-iterator.result ≡ offsets mask.layout.now = ap (flat_map run_offsets) are ∙ ens.offsets in
     record {
       lies = subst (All (LiesIn mask.block.now (item_size mask.descr.now))) (sym are) (runs-lie mask _ (omega (arith, c.items-items.ensures.value, c.items-items.ensures.limit)) ens.offsets ens.some (ens.lie max_bytes 1 (search rules)));
-      counted = ap (λ os. true_count (map (bool_at mask.block.now) os)) all;
-    }
-
-pub count_run-requires : goal.count_run-requires
-count_run-requires c =
-    let mask = c.args.mask in
-    let here = (subst (All (LiesIn mask.block.now (item_size mask.descr.now))) c.in-Some.ensures.steps c.loop-run.invariant.lies) 0 c.in-Some.run' (omega arith) in
-    let size = ap item_size (mask-bool mask.descr.now mask.layout.now.shape c.requires.kind) in
-    record {
-      few = here.few;
-      limit = here.limit;
-      inside = λ k d below. omega (arith, here.ends k d below, size, ap length c.bytes-bytes.ensures);
+      counted = omega (arith, ap (λ os. true_count (map (bool_at mask.block.now) os)) all);
     }
 
 pub overflow_add-many : goal.overflow_add-many
 overflow_add-many c =
     let mask = c.args.mask in
     let all = map (bool_at mask.block.now) (offsets mask.layout.now) in
-    record { fits = omega (arith, here (goal.at.overflow_add-many c).After-count_run, run_counted (bool_at mask.block.now) c.in-Some.run' _ _ c.in-Some.ensures.steps, c.loop-run.invariant.counted, few-true all, length-map (offsets mask.layout.now) (bool_at mask.block.now), length-offsets mask.layout.now, c.items-items.ensures.value, c.items-items.ensures.limit) }
+    record { fits = omega (arith, here c, run_counted (bool_at mask.block.now) c.in-Some.run' _ _ c.in-Some.ensures.steps, c.loop-run.invariant.counted, few-true all, length-map (offsets mask.layout.now) (bool_at mask.block.now), length-offsets mask.layout.now, c.items-items.ensures.value, c.items-items.ensures.limit) }
 
 pub loop-run-preserved : goal.loop-run-preserved
 loop-run-preserved c =
@@ -43,7 +32,7 @@ loop-run-preserved c =
     let steps = c.in-Some.ensures.steps in
     record {
       lies = All-rest (LiesIn mask.block.now (item_size mask.descr.now)) _ _ _ steps c.loop-run.invariant.lies;
-      counted = omega (arith, here (goal.at.loop-run-preserved c).After-count_run, run_counted (bool_at mask.block.now) c.in-Some.run' _ _ steps, c.loop-run.invariant.counted);
+      counted = omega (arith, here c, run_counted (bool_at mask.block.now) c.in-Some.run' _ _ steps, c.loop-run.invariant.counted);
     }
 
 pub returns : goal.returns
