@@ -36,7 +36,7 @@ pub use Rattle.fancy_index.specs.inside.Sums.{AllCanGrow, AreSums, BeginAt, Begi
 pub use Rattle.fancy_index.specs.inside.Words.{ArePlaces, IsNative, IsPlaceOf, LiesIn, named_places, place_of, word, words_along}
 pub use Rattle.std.proofs.Math.Bool.{and-true, and_assoc}
 pub use Rattle.std.proofs.Math.ListN.{length-set}
-pub use Rattle.std.proofs.Math.Nat.{div-div-eq-div-mul, div-one, mod-eq_of_lt, mod-lt, mul-le-mul, mul-suc}
+pub use Rattle.std.proofs.Math.Nat.{div-div-eq-div-mul, div-one, mod-eq_of_lt, mod-lt, mul-le-mul, mul-suc, zero-div}
 pub use Rattle.std.proofs.Math.Seq.{drop-append_seam, take-add, take-append-add, take-append_seam}
 pub use Rattle.std.proofs.lemmas.Bool.{and_parts, cases_lt, eqb-true, false≢true, le-leb}
 pub use Rattle.std.proofs.lemmas.Bool.Decides.{nat_tests}

@@ -1,5 +1,5 @@
 use Rattle.std.proofs.Common.{◌≡◌, ◌+◌, ◌-◌, ◌/◌, ◌%◌, ◌^◌, ℕ, get_or, sym, ap, ◌∙◌, arith, pos}
-use Rattle.fancy_index.proofs.Words.{bools_in, truth}
+use Rattle.fancy_index.proofs.Words.{zero-div, bools_in, truth}
 use Rattle.fancy_index.proofs.BoolLaws.{put_over, byte-within, bool-loaded}
 use Rattle.fancy_index.proofs.masks.put_sixteen.Goals as goal
 
@@ -11,7 +11,7 @@ array_at-loaded-requires c =
     (omega arith, omega (arith, byte-within c.args.bools c.requires.lie c.requires.adjacent (c.args.at + 15) (omega (arith, c.requires.end))))
 
 no-bit : (k : ℕ) → 0 / 2 ^ k % 2 ≡ 0
-no-bit k = ?
+no-bit k = ap (λ n. n % 2) (zero-div (2 ^ k))
 
 pub returns-then-bits-eq0 : goal.returns-then-bits-eq0
 returns-then-bits-eq0 c =
