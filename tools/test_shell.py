@@ -215,6 +215,7 @@ class Shells(InFolder):
         shell.until(b"print slow\n")
         while not sign.exists() and time.monotonic() < end:
             time.sleep(0.05)
+        time.sleep(0.3)  # until the shell waits for the reply too
         shell.type(CTRL_C)
 
     def test_ctrl_c_in_a_long_line(self):

@@ -168,6 +168,8 @@ def environments(part: Part, folder: Path, rng: Random, end: float) -> None:
         if env.get("PATH") in VALUES:
             env["PATH"] += ":" + os.environ["PATH"]
         done = subprocess.run(called, input=b"names\nx = zz\n", capture_output=True, env=env, cwd=folder)
+        if b"Fatal Python error" in done.stderr:  # with such a PATH, Python itself does not begin
+            continue
         part.count("commands")
         if b"Traceback" in done.stderr or b"defect" in done.stderr or done.returncode not in (0, 1, 2, 3):
             part.fault(f"{words} {behind} {set(env.items()) - set(os.environ.items())}", done.stderr[-400:], "a plain line, and a status of 0 to 3")
