@@ -10,9 +10,10 @@ import { inNumPy } from "./numpy.mjs";
 const SLICE = 25, EVERY = 1000, SOON = 200; // milliseconds of work in one go; lines, and milliseconds of work, after which the memory is kept once more
 const MOST_KEPT = 64 << 20; // bytes of memory that are kept to go back to, and of the bench in which hints are tried
 const MOST_CELLS_TOLD = 200; // of a buffer, in words
+const isSilent = line => /^\s*(#|$)/.test(line); // a blank line, or a comment
 
 export class Script {
-  /** `module` is the program, `tables` are those of LANGUAGE, and `tell` is called with each line's number before it runs. */
+  /** `module` is the program, `tables` are those of LANGUAGE, and `tell` is called with the number of each command before it runs. */
   constructor(module, tables, undo, tell = () => {}) {
     Object.assign(this, { module, undo, tell, language: new Language(tables), files: new Map(), generation: 0, lines: [] });
     this.hints = new Hints(this.language, isBroken => new Bench(this.spare(isBroken), 0));
@@ -97,7 +98,7 @@ export class Script {
   step(same) {
     const { length: count } = this.moments;
     if (count === same || count && (count % EVERY === 0 || performance.now() - this.keptAt > SOON)) this.keep();
-    this.tell(count);
+    if (!isSilent(this.lines[count])) this.tell(count);
     try {
       const moment = this.trace.step(this.lines[count]);
       this.moments.push(moment);
@@ -170,7 +171,7 @@ export class Script {
 }
 
 /** Answers the calls of a page, in a worker: a number, a method and its arguments come in; the number and the result go out, and the number
- *  of each line before it runs. */
+ *  of each command before it runs. */
 export function serve() {
   let script;
   globalThis.onmessage = async ({ data: [id, method, ...given] }) => {

@@ -157,8 +157,9 @@ def prove(counts):
 
 
 def main(words):
-    for name in ("MAKEFLAGS", "MFLAGS", "MAKELEVEL"):
+    for name in ("MAKEFLAGS", "MFLAGS", "MAKELEVEL", "PYTHONDONTWRITEBYTECODE"):
         os.environ.pop(name, None)
+    os.environ["PYTHONPYCACHEPREFIX"] = str(TOP / "out/pycache")  # (most tests start the companion many times)
     counts, is_gate = Counts(), "--gate" in words
     if is_gate:
         os.environ["BENCH_GATE"] = "yes"

@@ -41,6 +41,22 @@ class RefusedMemory(unittest.TestCase):
         self.assertEqual(part.faults, [])
         self.assertGreater(part.counts["with E40"], 1000, part.counts)
 
+    def requests(self, depth, *lines):
+        """How many requests for memory the program makes for a script, whose last line is accepted."""
+        counted = memory.Requests(self.library, self.folder)
+        done = subprocess.run([PROGRAM, "--undo", str(depth)], input="\n".join(lines).encode(), stdout=subprocess.PIPE, env=counted.refusing(0))
+        self.assertRegex(done.stdout.decode().splitlines()[-1], "^ok ")
+        return counted.counts()[0]
+
+    def test_lines_that_ask_for_no_memory(self):
+        """A shift or a reversal in place, and `undo`: a hundred lines make as many requests as ten. (A list of two index items needs room.)"""
+        for line in ("set a[1:] = a[:-1]", "set a[:-1] = a[1:]", "set r[:] = r[::-1]", "set t[1:] = t[:-1]", "set a[3] = a[4]", "set a[3] = 7"):
+            with self.subTest(line):
+                few, many = (self.requests(0, "a = zeros <i8 (30,40)", "t = transpose a", "r = a[0]", *[line] * count) for count in (10, 100))
+                self.assertEqual(many, few)
+        written = ["a = zeros <i8 (30,40)", *["set a[1:] = a[:-1]"] * 64]
+        self.assertEqual(self.requests(64, *written, *["undo"] * 64), self.requests(64, *written, "undo"))
+
     def test_the_scripts_reach_every_command(self):
         verb = re.compile(rb"(?:\w+ = )?([a-z]+)\b")
         reached = {found[1].decode() for script in own_scripts() for line in script.lines if (found := verb.match(line))}

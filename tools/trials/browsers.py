@@ -21,11 +21,11 @@ CHROMIUM: Optional[str] = next(filter(None, map(shutil.which, ("chromium", "chro
 FIREFOX: Optional[str] = next(filter(None, map(shutil.which, ("firefox-esr", "firefox"))), None)
 MASKED = bytes(255 - byte for byte in range(256))
 SETTINGS = {"browser.download.folderList": 2, "browser.shell.checkDefaultBrowser": False, "browser.startup.page": 0,
-            "datareporting.policy.dataSubmissionEnabled": False}
+            "datareporting.policy.dataSubmissionEnabled": False, "dom.ipc.keepProcessesAlive.file": 4}
 # The number of a key in chromium, and its letter in Firefox.
 KEYS = {"Enter": (13, "\ue007"), "Tab": (9, "\ue004"), "Escape": (27, "\ue00c"), "Backspace": (8, "\ue003"), "ArrowLeft": (37, "\ue012"),
         "ArrowUp": (38, "\ue013"), "ArrowRight": (39, "\ue014"), "ArrowDown": (40, "\ue015")}
-FEW = 200  # letters that are typed one by one
+FEW, FEW_KEYS = 200, 16  # letters that are not pasted: in chromium as one text, in Firefox a key each
 COPIES = """addEventListener('copy', event => { event.clipboardData.setData('text/plain', %s); event.preventDefault(); }, { once: true }),
 document.execCommand('copy')"""
 
@@ -283,8 +283,8 @@ class FirefoxPage(Page):
         self.type(KEYS[key][1])
 
     def type(self, text: str) -> None:
-        """Types a text, a long one as from the clipboard."""
-        if len(text) < FEW:
+        """Types a text, a longer one as from the clipboard."""
+        if len(text) < FEW_KEYS:
             keys = text.replace("\n", KEYS["Enter"][1])
             self._act("key", [{"type": kind, "value": key} for key in keys for kind in ("keyDown", "keyUp")])
         else:
