@@ -136,4 +136,7 @@ def main(arguments: Optional[Sequence[str]] = None) -> int:
         say(f"bench-tool: {printable(defect(fault), 500)}")
     finally:
         drop_unwritten()
+        for number in SIGNALS:
+            if signal.getsignal(number) is ended:  # (an exception has no place where Python itself ends)
+                signal.signal(number, signal.SIG_DFL)
     return 3
