@@ -54,7 +54,7 @@ pub use Rattle.std.specs.List.{flat_map, list_all, list_any}
 pub use Rattle.std.specs.Ordering.{int_eq}
 pub use Rattle.std.specs.Simd.Lanes.{digits_l}
 pub use Rattle.std.specs.Str.{bytes_eq}
-pub use Rattle.view_ops.specs.Basics.{Along, At, New, Pick, Placed, axis_of, has_step, is_on_axis, picked_index, picked_shape, picks_of, whole}
+pub use Rattle.view_ops.specs.Basics.{Along, At, New, Pick, axis_of, has_step, is_on_axis, picked_index, picked_shape, picks_of, placed, whole, width}
 unfoldable pub use Rattle.view_ops.specs.Basics.{picked_view}
 pub use Rattle.view_ops.specs.PickLaws.{first_number, length-run, number_at}
 pub use Rattle.view_ops.specs.Picks.{ArePicks, first_of, pick_shown}
