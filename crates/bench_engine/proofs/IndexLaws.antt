@@ -1,6 +1,6 @@
 -- Index lists with names of arrays.
 use Rattle.std.proofs.Common.{◌≡◌, ◌<◌, ◌≤◌, ◌+◌, ◌*◌, ◌&&◌, ℕ, zero, suc, true, false, nat_le, List, [], ◌∷◌, ◌++◌, length, map, take, get_or, slice_index, Some, refl, sym, ap, ◌∙◌, subst, All, Result, Ok, Err, arith}
-use Rattle.bench_engine.proofs.Words.{Contains, list_all, le-leb, lt-leb, and_parts, take_more, length-map, map_push, All-map, Contains-get_or, list_all-append, map-map, Refusal, TooLarge, item_from, item_size, IndexItem, Layout, count, indexes, rank, length-indexes, rank-lt, get_or-indexes, index_at, length-offsets, offsets, max_bytes, view_through, IndexArray, indexed, Planned, IsPlanOf, GivesPlan, index_array_of, index_item_of, index_items, first_number, Items, State, is_bound, buffer_of, descr_of, addresses, read, start_at, Shows, ArrayRef, offsets-at, View, Array, names_in_item, names_in_index, by_items, array_by_items, gathered, viewed}
+use Rattle.bench_engine.proofs.Words.{Contains, list_all, le-leb, lt-leb, and_parts, take_more, length-map, map_push, All-map, Contains-get_or, list_all-append, map-map, Refusal, TooLarge, item_from, item_size, IndexItem, Layout, count, indexes, rank, length-indexes, rank-lt, get_or-indexes, index_at, length-offsets, offsets, max_bytes, view_through, IndexArray, indexed, Planned, IsPlanOf, GivesPlan, index_array_of, index_item_of, index_items, item_number, Items, State, is_bound, buffer_of, descr_of, addresses, read, start_at, Shows, ArrayRef, offsets-at, View, Array, names_in_item, names_in_index, by_items, array_by_items, gathered, viewed}
 use Rattle.bench_engine.specs.NewArrayLaws.{passed}
 
 -- ---- names that are bound
@@ -22,11 +22,11 @@ array-is s a r indices shows descr layout block = λ i. record {
   numbers = numbers i;
 }
   where
-    numbers : (index_array_of indices).numbers ≡ map first_number (read s a)
+    numbers : (index_array_of indices).numbers ≡ map item_number (read s a)
     numbers =
-        (λ i. map (λ offset. first_number (item_from (descr i) (block i) offset)) (offsets (layout i)))
-        ∙ sym (map-map first_number (item_from r.descr.now r.block.now) (offsets r.layout.now))
-        ∙ ap (map first_number) (sym shows.reads)
+        (λ i. map (λ offset. item_number (item_from (descr i) (block i) offset)) (offsets (layout i)))
+        ∙ sym (map-map item_number (item_from r.descr.now r.block.now) (offsets r.layout.now))
+        ∙ ap (map item_number) (sym shows.reads)
 
 -- one more item, with its array
 pub item-added : (s : State) (items pushed : List (IndexItem Items)) (index : List (IndexItem (List ℕ))) (k : ℕ) (item : IndexItem Items) (d : IndexItem (List ℕ)) → pushed ≡ items ++ item ∷ [] → k < length index →

@@ -14,7 +14,7 @@ pub use Rattle.bench_engine.specs.Replies.{Reply, Tells, bound_text, format_text
 pub use Rattle.bench_engine.specs.Sessions.{Ends, Fed, FedInPart, Feeds, HasTold, HoldsBytes, HoldsPiece, IsNew}
 pub use Rattle.bench_engine.specs.Steps.{DoesAlone, Found, LoadStep, MayFind, Refuses, SaveStep, Step, Stored, World, bound_loaded, loaded, loaded_contents, save_reply, store_refusal, world}
 unfoldable pub use Rattle.bench_engine.specs.Steps.{file_of_name, load_outcome}
-pub use Rattle.bench_engine.specs.Words.{All-seconds, Answers, AnswersBind, AnswersShares, Appends, AreAlike, Argument, Array, ArrayRef, Ask, BadAxis, BenchValue, Big, BinOp, Binary, Bind, Block, BoolScalar, Boolean, Bound, Broadcast, Buffer, Byte, C, Cast, Combine, Command, Compare, Comparison, Computation, Consumes, Contains, Counts, CountsWrite, Delete, Descr, Device, Duplicate, Eight, FaultHasCause, Fits, Fortran, Four, Fresh, Gives, GivesField, GivesPlan, GivesView, HoldsFileItems, IndexArray, IndexItem, Int, IsAffine, IsAtEnd, IsAxisOf, IsFieldOf, IsIndex, IsIndex-broadcast, IsIndex-from_reverse, IsIndex-insert, IsKept, IsNested, IsPermutation, IsPlanOf, IsRead, IsReshapeOf, IsSameStore, IsShape, IsViewIn, IsViewOf, IsWritten, Items, Keeps, KeepsNested, Layout, LayoutPair, LeadsTo, Leaf, LeafValue, Line, LineTooLong, Literal, Little, Loaded, Loads, MayBind, MayLackRoom, MayWrite, Memory, MemoryOrder, NoSuchCast, NoSuchField, NotForThisKind, NumberOfValues, Operand, Operation, Order, OutOfMemory, Owned, Plan, Planned, Print, ReadOnly, RecordDescr, Red, Reduce, Refusal, Save, Says, Scalar, ScalarDescr, ScalarLiteral, Sends, SendsPart, ShapesDoNotBroadcast, Shows, Source, State, StoreFault, StoreState, Supplies, Target, TooLarge, TooLong, TooManyAxes, TooManyNames, Transform, Two, UnOp, Undo, UnknownName, View, Viewing, addresses, affine, affine_or_not, aligned, all_go_together, all_stretch, appends_nothing, appends_then, array_text, asks, axes_beyond, axis_below, bad_byte, basic, big_from, binary_item, bind_ok, bind_same, blocks, bound_to, bound_view, broadcast_index, buffer_of, can-itself, can_cast, can_stretch, cast_item, check, check_test, common-fits, common-some, common_length, common_lengths, common_of_two, common_with, compared_item, count, count-reverse, decode, decode_item, descr-then, descr_at, descr_of, descriptor, distance, ends_with, f_multiples, few-axes, field_at, field_of, fields, file_order, find_array, first_number, firsts-reordered, fits-offsets, flat_map, found-array, from_front, get, get_or-indexes, go_together, has_room_for, index_array_of, index_at, index_item_of, index_items, indexed, indexes, integer, is_axis, is_basic, is_bound, is_castable, is_scalar, is_text, item_from, item_pairs, item_size, item_value, item_values, items_from, items_in, joined, joined-add, keep_last, keeping, leaves_of, length-indexes, length-joined, length-offsets, line_of, list_all, lists, literal_number, little_from, map-swap, max_bytes, max_items, misspelt, multiples, named_axis, nested-reordered, not_affine, number, number_in, number_scalar, offsets, offsets-at, offsets_in, offsets_of, offsets_within, ok_or, ordered, outcome_of, pair_even, pairwise, part_at, parts_take_memory, path-then, placed_item, places_of, position, promote, range_with_len, rank, rank-lt, read, reduced_item, reduced_items, refusal_text, rest_of, same_answer, same_on_indexes, saved, scalar_of, shape_of-same, shape_read, share_cells, silent, size, span_of, start-then, start_at, stretched-ok, stretched-self, stretched_items, stretches, target_of, target_offsets, text, transposed, truth, unary_item, unary_result, view_through, with_part, without_nuls, write, written, ◌>>=◌}
+pub use Rattle.bench_engine.specs.Words.{All-seconds, Answers, AnswersBind, AnswersShares, Appends, AreAlike, Argument, Array, ArrayRef, Ask, BadAxis, BenchValue, Big, BinOp, Binary, Bind, Block, BoolScalar, Boolean, Bound, Broadcast, Buffer, Byte, C, Cast, Combine, Command, Compare, Comparison, Computation, Consumes, Contains, Counts, CountsWrite, Delete, Descr, Device, Duplicate, Eight, FaultHasCause, Fits, Fortran, Four, Fresh, Gives, GivesField, GivesPlan, GivesView, HoldsFileItems, IndexArray, IndexItem, Int, IsAffine, IsAtEnd, IsAxisOf, IsFieldOf, IsIndex, IsIndex-broadcast, IsIndex-from_reverse, IsIndex-insert, IsKept, IsNested, IsPermutation, IsPlanOf, IsRead, IsReshapeOf, IsSameStore, IsShape, IsViewIn, IsViewOf, IsWritten, Items, Keeps, KeepsNested, Layout, LayoutPair, LeadsTo, Leaf, LeafValue, Line, LineTooLong, Literal, Little, Loaded, Loads, MayBind, MayLackRoom, MayWrite, Memory, MemoryOrder, NoSuchCast, NoSuchField, NotForThisKind, NumberOfValues, Operand, Operation, Order, OutOfMemory, Owned, Plan, Planned, Print, ReadOnly, RecordDescr, Red, Reduce, Refusal, Save, Says, Scalar, ScalarDescr, ScalarLiteral, Sends, SendsPart, ShapesDoNotBroadcast, Shows, Source, State, StoreFault, StoreState, Supplies, Target, TooLarge, TooLong, TooManyAxes, TooManyNames, Transform, Two, UnOp, Undo, UnknownName, View, Viewing, addresses, affine, affine_or_not, aligned, all_go_together, all_stretch, appends_nothing, appends_then, array_text, asks, axes_beyond, axis_below, bad_byte, basic, big_from, binary_item, bind_ok, bind_same, blocks, bound_to, bound_view, broadcast_index, buffer_of, can-itself, can_cast, can_stretch, cast_item, check, check_test, common-fits, common-some, common_length, common_lengths, common_of_two, common_with, compared_item, count, count-reverse, decode, decode_item, descr-then, descr_at, descr_of, descriptor, distance, ends_with, f_multiples, few-axes, field_at, field_of, fields, file_order, find_array, firsts-reordered, fits-offsets, flat_map, found-array, from_front, get, get_or-indexes, go_together, has_room_for, index_array_of, index_at, index_item_of, index_items, indexed, indexes, integer, is_axis, is_basic, is_bound, is_castable, is_scalar, is_text, item_from, item_number, item_pairs, item_size, item_value, item_values, items_from, items_in, joined, joined-add, keep_last, keeping, leaves_of, length-indexes, length-joined, length-offsets, line_of, list_all, lists, literal_number, little_from, map-swap, max_bytes, max_items, misspelt, multiples, named_axis, nested-reordered, not_affine, number, number_in, number_scalar, offsets, offsets-at, offsets_in, offsets_of, offsets_within, ok_or, ordered, outcome_of, pair_even, pairwise, part_at, parts_take_memory, path-then, placed_item, places_of, position, promote, range_with_len, rank, rank-lt, read, reduced_item, reduced_items, refusal_text, rest_of, same_answer, same_on_indexes, saved, scalar_of, shape_of-same, shape_read, share_cells, silent, size, span_of, start-then, start_at, stretched-ok, stretched-self, stretched_items, stretches, target_of, target_offsets, text, transposed, truth, unary_item, unary_result, view_through, with_part, without_nuls, write, written, ◌>>=◌}
 unfoldable pub use Rattle.bench_engine.specs.Words.{binary_result, bytes_compared_result, common_shape, compared_result, compared_type, integer_compared_result, range_items, same_kind, shape_of, stretched, stretched_into}
 pub use Rattle.bench_engine.specs.declared.operands.Given.{Given}
 pub use Rattle.bench_engine.specs.declared.operands.Part.{Part}

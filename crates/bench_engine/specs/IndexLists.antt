@@ -1,6 +1,6 @@
 -- What an index list selects from an array of a state. A name in the list means the array that it is bound to.
 use Rattle.std.specs.Prelude.{ℕ, ◌*◌, if◌then◌else◌, List, [], ◌∷◌, map, Option, Some, None, Result, Ok, nat_le}
-use Rattle.bench_engine.specs.Words.{list_all, flat_map, Refusal, TooLarge, ◌>>=◌, check, item_size, IndexItem, Slice, Ellipsis, NewAxis, is_basic, max_bytes, count, basic, IndexArray, no_array, indexed, first_number, State, find_array, descr_of, read, Integer, View}
+use Rattle.bench_engine.specs.Words.{list_all, flat_map, Refusal, TooLarge, ◌>>=◌, check, item_size, IndexItem, Slice, Ellipsis, NewAxis, is_basic, max_bytes, count, basic, IndexArray, no_array, indexed, item_number, State, find_array, descr_of, read, Integer, View}
 use Rattle.elem_descr.specs.declared.index_item.IndexItem.TheVariants.{Array}
 use Rattle.name_store.specs.States as states
 
@@ -12,11 +12,11 @@ names_in_item item = []
 abbrev pub names_in_index : List (IndexItem (List ℕ)) → List (List ℕ)
 names_in_index index = flat_map names_in_item index
 
--- the array as an index array: its element type, its shape, and the first number of each item; or the placeholder for a
+-- the array as an index array: its element type, its shape, and the number of each item; or the placeholder for a
 -- missing array
 abbrev pub by_items : State → Option states.Array → IndexArray
 by_items s None = no_array
-by_items s (Some array) = record { descr = descr_of s array; shape = array.shape; numbers = map first_number (read s array) }
+by_items s (Some array) = record { descr = descr_of s array; shape = array.shape; numbers = map item_number (read s array) }
 
 -- an item of an index list, with the array itself in place of its name
 abbrev pub array_by_items : State → IndexItem (List ℕ) → IndexItem IndexArray

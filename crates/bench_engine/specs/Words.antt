@@ -15,7 +15,7 @@ pub use Rattle.elem_descr.specs.Blocks.{blocks, item_from, items_in}
 unfoldable pub use Rattle.elem_descr.specs.DescrTexts.{descriptor}
 pub use Rattle.elem_descr.specs.Encoding.{IsNumber, decode, integer, number_in, size, truth, without_nuls}
 pub use Rattle.elem_descr.specs.IndexItems.{is_basic}
-pub use Rattle.elem_descr.specs.Items.{AreAlike, decode_item, field_at, field_of, fields, item_size, leaves_of}
+pub use Rattle.elem_descr.specs.Items.{AreAlike, decode_item, field_at, field_of, fields, item_number, item_size, leaves_of}
 pub use Rattle.elem_descr.specs.RefusalLaws.{bind_ok, bind_same, check_test, same_answer}
 pub use Rattle.elem_descr.specs.RefusalTexts.{refusal_text}
 pub use Rattle.elem_descr.specs.Refusals.{Answers, Gives, check, ◌>>=◌}
@@ -49,7 +49,7 @@ unfoldable pub use Rattle.elementwise.specs.Results.{binary_result, bytes_compar
 pub use Rattle.fancy_index.specs.IndexArrays.{IndexArray, no_array}
 unfoldable pub use Rattle.fancy_index.specs.Indexed.{indexed}
 pub use Rattle.fancy_index.specs.Plans.{GivesPlan, IsPlanOf, Planned}
-pub use Rattle.fancy_index.specs.Sources.{first_number, index_array_of, index_item_of, index_items}
+pub use Rattle.fancy_index.specs.Sources.{index_array_of, index_item_of, index_items}
 pub use Rattle.literal_items.specs.LiteralItems.{is_castable, literal_number}
 unfoldable pub use Rattle.literal_items.specs.LiteralItems.{item_value, item_values}
 pub use Rattle.literal_items.specs.RangeItems.{range_count}

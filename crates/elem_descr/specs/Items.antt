@@ -1,5 +1,5 @@
 -- The items of a descriptor: one value per leaf.
-use Rattle.std.specs.Prelude.{◌≡◌, ◌+◌, ◌-◌, ◌<◌, ◌≤◌, ℕ, List, [], ◌∷◌, ◌++◌, length, map, position, take, Option}
+use Rattle.std.specs.Prelude.{◌≡◌, ◌+◌, ◌-◌, ◌<◌, ◌≤◌, ℕ, ℤ, pos, List, [], ◌∷◌, ◌++◌, length, map, position, take, Option}
 use Rattle.std.proofs.Common.{get_or, drop, replicate}
 use Rattle.elem_descr.specs.Words.{bytes_eq}
 use Rattle.elem_descr.specs.declared.descr.Descr.{Descr}
@@ -7,8 +7,8 @@ use Rattle.elem_descr.specs.declared.descr.Descr.TheVariants.{Scalar as ScalarDe
 use Rattle.elem_descr.specs.declared.descr.Field.{Field}
 use Rattle.elem_descr.specs.declared.descr.Leaf.{Leaf}
 use Rattle.elem_descr.specs.declared.scalar.Scalar.TheVariants.{Bool as BoolScalar}
-use Rattle.elem_descr.specs.Values.{LeafValue}
-use Rattle.elem_descr.specs.Encoding.{size, decode, encode}
+use Rattle.elem_descr.specs.Values.{LeafValue, number}
+use Rattle.elem_descr.specs.Encoding.{size, decode, number_of, encode}
 use Rattle.elem_descr.specs.Fields.{Fields, no_more, scalar_field, record_field}
 use Rattle.elem_descr.specs.Descriptors.{fields_of}
 
@@ -84,6 +84,14 @@ field_leaves descr k = (leaves_in (take k (fields descr)), length (leaves_of (fi
 -- the values that the bytes of an item mean, one per leaf; bytes that belong to no leaf are ignored
 abbrev pub decode_item : Descr → List ℕ → List LeafValue
 decode_item descr bytes = map (λ leaf. decode leaf.scalar (take (size leaf.scalar) (drop leaf.at bytes))) (leaves_of descr)
+
+-- the value of an item of a scalar
+abbrev pub value_in : List LeafValue → LeafValue
+value_in item = get_or item 0 (number (pos 0))
+
+-- that value as a number
+abbrev pub item_number : List LeafValue → ℤ
+item_number item = number_of (value_in item)
 
 -- the bytes from `from` up to `bytes`: the value of each leaf at its offset, and zeros elsewhere
 abbrev pub encode_from : ℕ → List Leaf → List LeafValue → ℕ → List ℕ

@@ -1,6 +1,6 @@
 -- Results of operations and comparisons on arrays: their type, their shape and their items.
-use Rattle.std.specs.Prelude.{◌≡◌, ℕ, ℤ, pos, Bool, if◌then◌else◌, not, List, [], ◌∷◌, get_or, map, Result, Ok, Err, IfOk}
-use Rattle.elementwise.specs.Words.{Refusal, NotForThisKind, Descr, Scalar, LeafValue, number, wrap, number_of, ◌>>=◌, check, Gives, flat_map, C, item_from, item_size, encode_item, owned_items, Items, Owned, Layout, offsets, offsets_in, view_through, common_shape, broadcast_index, BinOp, UnOp, Comparison, is_text, ScalarDescr, RecordDescr, BoolScalar}
+use Rattle.std.specs.Prelude.{◌≡◌, ℕ, ℤ, pos, Bool, if◌then◌else◌, not, List, [], ◌∷◌, map, Result, Ok, Err, IfOk}
+use Rattle.elementwise.specs.Words.{Refusal, NotForThisKind, Descr, Scalar, LeafValue, number, wrap, value_in, item_number, ◌>>=◌, check, Gives, flat_map, C, item_from, item_size, encode_item, owned_items, Items, Owned, Layout, offsets, offsets_in, view_through, common_shape, broadcast_index, BinOp, UnOp, Comparison, is_text, ScalarDescr, RecordDescr, BoolScalar}
 use Rattle.elementwise.specs.Promotion.{promote, promote_one, compared_type}
 use Rattle.elementwise.specs.Operations.{binary, unary}
 use Rattle.elementwise.specs.Comparisons.{compared}
@@ -50,13 +50,9 @@ bytes_compared_result left shape = do
 
 -- ---- the items of a result
 
--- the value of an item of a scalar
-abbrev pub value_in : List LeafValue → LeafValue
-value_in item = get_or item 0 (number (pos 0))
-
--- That value as a number of another scalar. Operands are cast to the type of the result first.
+-- The number of an item, as a number of another scalar. Operands are cast to the type of the result first.
 abbrev pub number_as : Scalar → List LeafValue → ℤ
-number_as scalar item = wrap scalar (number_of (value_in item))
+number_as scalar item = wrap scalar (item_number item)
 
 abbrev pub binary_item : BinOp → Descr → List LeafValue → List LeafValue → List LeafValue
 binary_item op (ScalarDescr scalar) left right = number (binary op scalar (number_as scalar left) (number_as scalar right)) ∷ []

@@ -21,7 +21,7 @@ pub use Rattle.elem_descr.specs.Descriptors.{before, fields_of, listed}
 pub use Rattle.elem_descr.specs.Encoding.{FitsBytes, IsNumber, IsValueOf, decode, encode, integer, low_bits, number_in, number_of, padded, size, text_of, truth, width_size, without_nuls, wrap}
 pub use Rattle.elem_descr.specs.EncodingLaws.{decode_encode, low_bits-integer, low_bits-lt, truth_suc}
 pub use Rattle.elem_descr.specs.Fields.{Fields, Structure, no_more, record_field, scalar_field, total}
-pub use Rattle.elem_descr.specs.Items.{AreAlike, LeavesInOrder, decode_item, encode_from, encode_item, item_size, leaf_at, leaves_from, leaves_of, no_leaf}
+pub use Rattle.elem_descr.specs.Items.{AreAlike, LeavesInOrder, decode_item, encode_from, encode_item, item_number, item_size, leaf_at, leaves_from, leaves_of, no_leaf, value_in}
 pub use Rattle.elem_descr.specs.NulLaws.{length-without_nuls, without_nuls-back, without_nuls-more, without_nuls-twice}
 pub use Rattle.elem_descr.specs.Nuls.{nuls}
 pub use Rattle.elem_descr.specs.NumberLaws.{encode_wrap, fits_eight_bytes, number_size, some_bytes, wrap_stays}

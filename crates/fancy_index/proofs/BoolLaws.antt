@@ -1,6 +1,6 @@
 -- The ranks of true bools.
 use Rattle.std.proofs.Common.{◌≡◌, ◌⊎◌, inl, inr, ℕ, zero, suc, ◌+◌, ◌*◌, ◌/◌, ◌%◌, ◌^◌, ◌<◌, ◌≤◌, true, false, List, [], ◌∷◌, ◌++◌, map, length, get_or, set, take, drop, refl, sym, ap, subst, ◌∙◌, arith, append_assoc, cond, not, ℤ, pos, ◌*ℤ◌}
-use Rattle.fancy_index.proofs.Words.{flat_map, count_by-le-length, int_eq, ints, map-map, get_or-map, length-map, get_or-drop, get_or-take, drop_more, map-append, sum_by-append, sum_by-cons, sum_by-drop_more, take-set, take_more_set, item_at, Descr, Byte, Int, Bytes, Items, item_from, items, numbers_in, offsets, truth, Run, run_offsets, length-run_offsets, ScalarDescr, RecordDescr, BoolScalar, Mask, kind_of, axes_of_kind, first_number, number_from, Bools, bool_at, bools_in, AreBits, LieInBytes, true_count, true_ranks}
+use Rattle.fancy_index.proofs.Words.{flat_map, count_by-le-length, int_eq, ints, map-map, get_or-map, length-map, get_or-drop, get_or-take, drop_more, map-append, sum_by-append, sum_by-cons, sum_by-drop_more, take-set, take_more_set, item_at, Descr, Byte, Int, Bytes, Items, item_from, items, numbers_in, offsets, truth, Run, run_offsets, length-run_offsets, ScalarDescr, RecordDescr, BoolScalar, Mask, kind_of, axes_of_kind, item_number, number_from, Bools, bool_at, bools_in, AreBits, LieInBytes, true_count, true_ranks}
 use Rattle.fancy_index.proofs.RunLaws.{lies-there}
 
 -- ---- the bools of a mask
@@ -29,7 +29,7 @@ numbers-are descr block offsets is = λ i. map (λ offset. number-bool descr blo
 -- if items are the same, so are their numbers
 pub numbers-same : (read mask : Items) → items read ≡ items mask → numbers_in read ≡ numbers_in mask
 numbers-same read mask same =
-    sym (map-map first_number (item_from read.descr.now read.block.now) (offsets read.layout.now)) ∙ ap (map first_number) same ∙ map-map first_number (item_from mask.descr.now mask.block.now) (offsets mask.layout.now)
+    sym (map-map item_number (item_from read.descr.now read.block.now) (offsets read.layout.now)) ∙ ap (map item_number) same ∙ map-map item_number (item_from mask.descr.now mask.block.now) (offsets mask.layout.now)
 
 -- ---- their ranks
 

@@ -1,6 +1,6 @@
 -- The parts of an index list, item by item.
 use Rattle.std.proofs.Common.{◌≡◌, inl, inr, Ok, ℕ, ◌+◌, ℤ, ◌<◌, ◌≤◌, Bool, true, false, ◌&&◌, List, [], ◌∷◌, ◌++◌, map, length, get_or, take, refl, sym, ap, subst, ◌∙◌, arith, append_assoc, append-nil}
-use Rattle.fancy_index.proofs.Words.{is_ok, list_all, flat_map, and-true, and_assoc, and_parts, false≢true, map-append, list_all-append, list_all_at, list_all_more, Refusal, IndexOutOfRange, check, IndexItem, Integer, AxisPick, is_place, whole, has_step, pick_shown, ArePicks, AtAxis, AlongAxis, NewAxis, PointList, IndexPart, AxisPart, PointsPart, BetweenPart, IndexArray, is_index, array_axes_taken, placed_arrays, left_over, covers, cover, is_within, are_within, Part, Axis, wholes, parts_of, parts, IsNext, IsOutside, place_of, ranks_of, are_named, IsPart, IsChecked, shown_part, is_named, all_named, AreParts, AddsParts}
+use Rattle.fancy_index.proofs.Words.{is_ok, list_all, flat_map, and-true, and_assoc, and_parts, false≢true, map-append, list_all-append, list_all_at, list_all_more, Refusal, IndexOutOfRange, check, IndexItem, Integer, AxisPick, is_place, whole, has_step, pick_shown, ArePicks, AtAxis, AlongAxis, NewAxis, PointList, IndexPart, AxisPart, PointsPart, BetweenPart, IndexArray, is_index, array_axes_taken, placed, covers, cover, is_within, are_within, Part, Axis, wholes, parts_of, parts, IsNext, IsOutside, place_of, ranks_of, are_named, IsPart, IsChecked, shown_part, is_named, all_named, AreParts, AddsParts}
 use Rattle.fancy_index.proofs.PointLaws.{integer-part}
 
 -- ---- parts of axes
@@ -88,7 +88,6 @@ module _ (shape axes axes' taken : List ℕ) (items left left' : List (IndexItem
 
   pub parts_on : (new : List IndexPart) → array_axes_taken left' ≤ length axes' → AddsParts done new taken (is_within taken item) (parts_of taken item) → HaveParts shape items new axes' left'
   parts_on new enough adds =
-      let later = flat_map (λ p. parts_of p.axes p.item) (placed_arrays axes' left') in
       record {
         checked = record {
           index = (parted is_index have.checked.index).1;
@@ -109,8 +108,7 @@ module _ (shape axes axes' taken : List ℕ) (items left left' : List (IndexItem
             ∙ ap (λ l. l ++ parts axes' left') (map-append shown_part done adds.added)
             ∙ ap (λ l. (map shown_part done ++ l) ++ parts axes' left') (adds.show here)
             ∙ append_assoc (map shown_part done) (parts_of taken item) (parts axes' left')
-            ∙ ap (λ l. map shown_part done ++ l) (sym (append_assoc (parts_of taken item) later (wholes (left_over axes' left'))))
-            ∙ sym (λ i. map shown_part done ++ (flat_map (λ p. parts_of p.axes p.item) (next.placed i) ++ wholes (next.over i)))
+            ∙ sym (λ i. map shown_part done ++ flat_map (λ p. parts_of p.axes p.item) (next.placed i))
             ∙ have.show all;
       }
 

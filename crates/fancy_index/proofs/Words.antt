@@ -2,14 +2,14 @@
 pub use Rattle.arrays.specs.Packed.{row_offsets as packed}
 pub use Rattle.arrays.specs.PackedLaws.{length-row, length-row as length-packed, row-split as packed-append}
 pub use Rattle.elem_descr.specs.declared.descr.Descr.TheVariants.{Record as RecordDescr}
-pub use Rattle.fancy_index.specs.IndexArrays.{IndexArray, are_places, are_within, array_axes_taken, axes_of_kind, cover, covers, covers_kind, is_index, is_within, kind, kind_of, left_over, placed_arrays}
+pub use Rattle.fancy_index.specs.IndexArrays.{IndexArray, are_places, are_within, array_axes_taken, axes_of_kind, cover, covers, covers_kind, is_index, is_within, kind, kind_of}
 pub use Rattle.fancy_index.specs.Indexed.{all_axes, as_index_shapes, leads_through, points_shape}
 unfoldable pub use Rattle.fancy_index.specs.Indexed.{indexed, parts_view}
 pub use Rattle.fancy_index.specs.Parts.{Axis, Between, Part, Points, axes_before, axes_of_part, leads, other_axes, parts, parts_of, point_at, point_shapes, points_of, points_place, side_by_side, true_indexes, wholes}
 pub use Rattle.fancy_index.specs.PlanLaws.{filled-run, put_each-append}
 pub use Rattle.fancy_index.specs.Plans.{GivesPlan, IsPlanOf, Planned, put_each}
-pub use Rattle.fancy_index.specs.Sources.{first_number, index_array_of, index_item_of, index_items, number_from}
-pub use Rattle.fancy_index.specs.Words.{All-back, All-front, AlongAxis, ArePicks, Array, AtAxis, AxisPick, BeginsWithin, BoolScalar, Byte, Bytes, Descr, EachWithin, Ellipsis, Gives, GivesView, IndexItem, IndexOutOfRange, IndexShapes, Int, Integer, IsIndex, IsIndex-append, IsIndex-broadcast, IsIndex-first, IsShape, IsViewOf, Items, Layout, LieWithin, LieWithin-view, MaskLengths, New, NotAnIndexType, OutOfMemory, Owned, Refusal, Run, ScalarDescr, ShowsThrough, Slice, TooLarge, TooManyAxes, TooManyIndices, View, ZeroStep, address, address_at, all_stretch, assigned, assigned-append, axis_below, axis_of, broadcast_index, broadcast_index-itself, bytes_eq, can_stretch, check, common_with, count, count-append, decode_item, dot, dot-zeros, entry-first, factors_pos, few-axes, filled, first_of, flat_map, flat_map-flat_map, flat_map_same, from_front, get_or-indexes, get_or-offsets, has_step, index_at, indexes, int_eq, integer, is_place, item_at, item_from, item_size, items, items_at, joined-items, joined_at, length-index, length-indexes, length-joined_at, length-offsets, length-run, length-run_offsets, lie-within, list_all, map-flat_map, max_axes, max_bytes, max_items, multiples, natural, not_negative, nth-offset, number_at, number_in, owned_items, pick_shown, picked_index, picked_shape, place, place-at, pos-natural, pos-offset, position, put, rank, rank-lt, row-multiples, row_offsets, run_numbers, run_offsets, same_on_indexes, shape_of-same, signed_number, stretches, truth, view_through, whole, with-fits, zero_filled, ◌>>=◌}
+pub use Rattle.fancy_index.specs.Sources.{index_array_of, index_item_of, index_items, number_from}
+pub use Rattle.fancy_index.specs.Words.{All-back, All-front, AlongAxis, ArePicks, Array, AtAxis, AxisPick, BeginsWithin, BoolScalar, Byte, Bytes, Descr, EachWithin, Ellipsis, Gives, GivesView, IndexItem, IndexOutOfRange, IndexShapes, Int, Integer, IsIndex, IsIndex-append, IsIndex-broadcast, IsIndex-first, IsShape, IsViewOf, Items, Layout, LieWithin, LieWithin-view, MaskLengths, New, NotAnIndexType, OutOfMemory, Owned, Refusal, Run, ScalarDescr, ShowsThrough, Slice, TooLarge, TooManyAxes, TooManyIndices, View, ZeroStep, address, address_at, all_stretch, assigned, assigned-append, axis_below, axis_of, broadcast_index, broadcast_index-itself, bytes_eq, can_stretch, check, common_with, count, count-append, decode_item, dot, dot-zeros, entry-first, factors_pos, few-axes, filled, first_of, flat_map, flat_map-flat_map, flat_map_same, from_front, get_or-indexes, get_or-offsets, has_step, index_at, indexes, int_eq, integer, is_place, item_at, item_from, item_number, item_size, items, items_at, joined-items, joined_at, length-index, length-indexes, length-joined_at, length-offsets, length-run, length-run_offsets, lie-within, list_all, map-flat_map, max_axes, max_bytes, max_items, multiples, natural, not_negative, nth-offset, number_at, number_in, owned_items, pick_shown, picked_index, picked_shape, place, place-at, placed, pos-natural, pos-offset, position, put, rank, rank-lt, row-multiples, row_offsets, run_numbers, run_offsets, same_on_indexes, shape_of-same, signed_number, stretches, truth, view_through, whole, with-fits, zero_filled, ◌>>=◌}
 unfoldable pub use Rattle.fancy_index.specs.Words.{common_of_two, offsets, picked_view, shape_of, slice_indices, stepped}
 pub use Rattle.fancy_index.specs.declared.index_parts.IndexPart.{IndexPart}
 pub use Rattle.fancy_index.specs.declared.index_parts.IndexPart.TheVariants.{Axis as AxisPart, Between as BetweenPart, Points as PointsPart}

@@ -1,6 +1,6 @@
 -- Arrays in an index list: which are masks, how many axes an item takes, and what is refused.
-use Rattle.std.specs.Prelude.{ℕ, ◌-◌, Bool, true, false, ℤ, List, [], ◌∷◌, take, drop, length, sum_by}
-use Rattle.fancy_index.specs.Words.{bytes_eq, list_all, Descr, Byte, Int, IndexItem, Ellipsis, NewAxis, Array, is_place, Placed, is_on_axis, ScalarDescr, BoolScalar}
+use Rattle.std.specs.Prelude.{ℕ, Bool, true, false, ℤ, List, [], ◌∷◌, length, sum_by}
+use Rattle.fancy_index.specs.Words.{bytes_eq, list_all, Descr, Byte, Int, IndexItem, Ellipsis, NewAxis, Array, is_place, placed, is_on_axis, ScalarDescr, BoolScalar}
 use Rattle.fancy_index.specs.declared.kinds.Kind.{Kind}
 use Rattle.fancy_index.specs.declared.kinds.Kind.TheVariants.{Integers, Mask, NoIndex}
 
@@ -41,23 +41,6 @@ item_axes _ = 1
 abbrev pub array_axes_taken : List (IndexItem IndexArray) → ℕ
 array_axes_taken items = sum_by item_axes items
 
--- the number of axes that an item takes if `left` axes remain: `...` takes all but those that the later items take
-abbrev pub array_axes_width : ℕ → IndexItem IndexArray → List (IndexItem IndexArray) → ℕ
-array_axes_width left Ellipsis later = left - array_axes_taken later
-array_axes_width left item later = item_axes item
-
--- the items of an index, each with the axes that it takes
-abbrev pub placed_arrays : List ℕ → List (IndexItem IndexArray) → List (Placed IndexArray)
-placed_arrays shape [] = []
-placed_arrays shape (item ∷ items) =
-    let n = array_axes_width (length shape) item items in
-    record { item = item; axes = take n shape } ∷ placed_arrays (drop n shape) items
-
--- the axes after those of the last item
-abbrev pub left_over : List ℕ → List (IndexItem IndexArray) → List ℕ
-left_over shape [] = shape
-left_over shape (item ∷ items) = left_over (drop (array_axes_width (length shape) item items) shape) items
-
 -- ---- what is refused
 
 abbrev pub is_kind_of_index : Kind → Bool
@@ -78,7 +61,7 @@ covers axes (Array array) = covers_kind (kind array) array.shape axes
 covers axes _ = true
 
 abbrev pub cover : List ℕ → List (IndexItem IndexArray) → Bool
-cover shape items = list_all (λ p. covers p.axes p.item) (placed_arrays shape items)
+cover shape items = list_all (λ p. covers p.axes p.item) (placed array_axes_taken shape items)
 
 -- each number of an array of integers must be within its axis, whatever shape the array broadcasts to
 abbrev pub are_places : Kind → List ℕ → List ℤ → Bool
@@ -90,4 +73,4 @@ is_within axes (Array array) = are_places (kind array) axes array.numbers
 is_within axes item = is_on_axis axes item
 
 abbrev pub are_within : List ℕ → List (IndexItem IndexArray) → Bool
-are_within shape items = list_all (λ p. is_within p.axes p.item) (placed_arrays shape items)
+are_within shape items = list_all (λ p. is_within p.axes p.item) (placed array_axes_taken shape items)

@@ -1,13 +1,13 @@
 -- The parts of an index list with arrays: what each item says about the axes that it takes.
 use Rattle.std.specs.Prelude.{ℕ, ◌+◌, Bool, true, false, not, if◌then◌else◌, ℤ, pos, List, [], ◌∷◌, ◌++◌, map, length, slice_index, get_or}
-use Rattle.fancy_index.specs.Words.{int_eq, list_any, flat_map, IndexItem, Integer, Ellipsis, Array, natural, indexes, rank, from_front, Pick, At, Along, New, whole, picks_of, axis_of, broadcast_index}
-use Rattle.fancy_index.specs.IndexArrays.{IndexArray, kind, placed_arrays, left_over}
+use Rattle.fancy_index.specs.Words.{int_eq, list_any, flat_map, IndexItem, Integer, Ellipsis, Array, natural, indexes, rank, from_front, placed, Pick, At, Along, New, whole, picks_of, axis_of, broadcast_index}
+use Rattle.fancy_index.specs.IndexArrays.{IndexArray, kind, array_axes_taken}
 use Rattle.fancy_index.specs.declared.kinds.Kind.{Kind}
 use Rattle.fancy_index.specs.declared.kinds.Kind.TheVariants.{Integers, Mask}
 
 -- A part is one of three: an axis that is picked as in a basic index, or a new one; points on one or more axes, with a
--- shape of their own and the numbers of each point on these axes; or the trace of a written `...`, which separates the
--- parts before it from those after it.
+-- shape of their own and the numbers of each point on these axes; or the trace of `...`, which separates the parts before
+-- it from those after it.
 pub data Part : Type 0 where
   Axis : Pick → Part
   Points : List ℕ → List (List ℕ) → Part
@@ -40,9 +40,9 @@ parts_of (n ∷ axes) (Integer at) = Points [] (point_at n at ∷ []) ∷ []
 parts_of axes (Array array) = points_of (kind array) axes array.shape array.numbers
 parts_of axes item = map Axis (picks_of axes item)
 
--- the parts of an index list. The axes after its last item are whole, without the separator of a written `...`.
+-- the parts of an index list
 abbrev pub parts : List ℕ → List (IndexItem IndexArray) → List Part
-parts shape items = flat_map (λ p. parts_of p.axes p.item) (placed_arrays shape items) ++ wholes (left_over shape items)
+parts shape items = flat_map (λ p. parts_of p.axes p.item) (placed array_axes_taken shape items)
 
 -- ---- the axes of the result
 

@@ -1,16 +1,11 @@
 -- The arrays of an index list, read from blocks.
-use Rattle.std.specs.Prelude.{ℕ, ℤ, pos, List, [], ◌∷◌, map}
-use Rattle.fancy_index.specs.Words.{Descr, LeafValue, number_of, item_from, IndexItem, Integer, Slice, Ellipsis, NewAxis, Array, offsets, Items}
+use Rattle.std.specs.Prelude.{ℕ, ℤ, List, map}
+use Rattle.fancy_index.specs.Words.{Descr, item_number, item_from, IndexItem, Integer, Slice, Ellipsis, NewAxis, Array, offsets, Items}
 use Rattle.fancy_index.specs.IndexArrays.{IndexArray}
-
--- the first value of an item, as a number
-abbrev pub first_number : List LeafValue → ℤ
-first_number (value ∷ values) = number_of value
-first_number [] = pos 0
 
 -- the number of the item at an offset
 abbrev pub number_from : Descr → List ℕ → ℕ → ℤ
-number_from descr bytes offset = first_number (item_from descr bytes offset)
+number_from descr bytes offset = item_number (item_from descr bytes offset)
 
 -- an array of an index list, read from its items
 abbrev pub index_array_of : Items → IndexArray

@@ -14,13 +14,12 @@ pub use Rattle.broadcasting.specs.Broadcasts.{all_stretch, broadcast_index, can_
 unfoldable pub use Rattle.broadcasting.specs.Broadcasts.{common_of_two}
 pub use Rattle.broadcasting.specs.FitLaws.{few-axes, with-fits}
 pub use Rattle.elem_descr.specs.Blocks.{item_from}
-pub use Rattle.elem_descr.specs.Encoding.{integer, number_in, number_of, truth}
+pub use Rattle.elem_descr.specs.Encoding.{integer, number_in, truth}
 pub use Rattle.elem_descr.specs.IndexItems.{is_ellipsis}
-pub use Rattle.elem_descr.specs.Items.{decode_item, item_size}
+pub use Rattle.elem_descr.specs.Items.{decode_item, item_number, item_size}
 pub use Rattle.elem_descr.specs.ListLaws.{flat_map-flat_map, flat_map_same, map-flat_map}
 pub use Rattle.elem_descr.specs.Refusals.{Gives, check, ◌>>=◌}
 unfoldable pub use Rattle.elem_descr.specs.Steps.{stepped}
-pub use Rattle.elem_descr.specs.Values.{LeafValue}
 pub use Rattle.elem_descr.specs.declared.descr.Descr.{Descr}
 pub use Rattle.elem_descr.specs.declared.descr.Descr.TheVariants.{Scalar as ScalarDescr}
 pub use Rattle.elem_descr.specs.declared.index_item.IndexItem.{IndexItem}
@@ -55,7 +54,7 @@ pub use Rattle.std.specs.List.{flat_map, list_all, list_any}
 pub use Rattle.std.specs.Ordering.{int_eq}
 pub use Rattle.std.specs.Simd.Lanes.{digits_l}
 pub use Rattle.std.specs.Str.{bytes_eq}
-pub use Rattle.view_ops.specs.Basics.{Along, At, New, Pick, Placed, axis_of, has_step, is_on_axis, picked_index, picked_shape, picks_of, whole}
+pub use Rattle.view_ops.specs.Basics.{Along, At, New, Pick, axis_of, has_step, is_on_axis, picked_index, picked_shape, picks_of, placed, whole, width}
 unfoldable pub use Rattle.view_ops.specs.Basics.{picked_view}
 pub use Rattle.view_ops.specs.PickLaws.{first_number, length-run, number_at}
 pub use Rattle.view_ops.specs.Picks.{ArePicks, first_of, pick_shown}

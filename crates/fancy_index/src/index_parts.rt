@@ -11,7 +11,7 @@ use std::alloc::{AllocError, Global};
 use view_ops::{AxisPick, pick_of, whole_axis};
 
 /// A part: a pick from an axis as by a basic index, or a new axis; points on some axes; or the
-/// trace of a written `...`, which separates what comes before it from what comes after.
+/// trace of `...`, which separates what comes before it from what comes after.
 #[derive(Drop)]
 pub(crate) enum IndexPart<'a> {
     Axis(AxisPick),
@@ -69,7 +69,8 @@ fn push_parts<'a>(
     }
 }
 
-/// The parts of an index list, or the refusal of a number. Arrays of integers are not read yet.
+/// The parts of an index list, or the refusal of a number. Arrays of integers are not read yet. The
+/// axes after the last item are taken as by `...`.
 pub(crate) fn parts_of<'a>(alloc: Global, left: Left<'a>) -> Result<Vec<IndexPart<'a>>, Refusal>
     requires small { All (λ n. n ≤ max_items) left.axes.now }
     requires checked { IsChecked left.axes.now (items_left left) }
@@ -86,7 +87,7 @@ pub(crate) fn parts_of<'a>(alloc: Global, left: Left<'a>) -> Result<Vec<IndexPar
     while let Some((item, axes)) = left.next() {
         push_parts(alloc, &mut parts, axes, item)?;
     }
-    push_wholes(&mut parts, left.axes)?;
+    push_parts(alloc, &mut parts, left.axes, IndexItem::Ellipsis)?;
     Ok(parts)
 }
 

@@ -1,6 +1,7 @@
 //! Index lists, item by item, with the axes that the items index.
 ghost use Rattle.std.specs.Prelude.{◌≡◌, ◌+◌, ◌<◌, ◌≤◌, [], length, IfSome, None};
-ghost use Rattle.fancy_index.specs.IndexArrays.{item_axes, array_axes_width};
+ghost use Rattle.fancy_index.specs.IndexArrays.{array_axes_taken, item_axes};
+ghost use Rattle.fancy_index.specs.Words.{width};
 ghost use Rattle.fancy_index.specs.Sources.{index_item_of, index_items};
 ghost use Rattle.fancy_index.specs.inside.Items.{axes_taken};
 
@@ -46,7 +47,7 @@ pub(crate) fn axes_beside(items: &[IndexItem<Items<'_>>], axes: usize) -> Option
 /// How many of the remaining axes an item takes: `...` takes those that the items after it leave.
 fn width(left: usize, item: IndexItem<Items<'_>>, later: &[IndexItem<Items<'_>>]) -> usize
     requires { item_axes (index_item_of item) + axes_taken later.now ≤ left }
-    ensures { result ≡ array_axes_width left (index_item_of item.entry) (index_items later.now) }
+    ensures { result ≡ width array_axes_taken left (index_item_of item.entry) (index_items later.now) }
 {
     match item {
         IndexItem::Ellipsis => axes_beside(later, left).unwrap_or(0),

@@ -5,8 +5,8 @@ pub use Rattle.reductions.specs.ListLaws.{IsIndex-insert}
 pub use Rattle.reductions.specs.Lists.{IsAxisOf, is_axis, list_length, lists, named_axis, reduced_shape}
 pub use Rattle.reductions.specs.Outcomes.{IsReduction, ReducedType, has_empty_list, number_scalar, outcome_of}
 unfoldable pub use Rattle.reductions.specs.Outcomes.{reduced_type, shape_after}
-pub use Rattle.reductions.specs.Reductions.{depends_on_order, first_place, is_true, item_number, needs_items, reduced, reduced_item, reduced_items, result_scalar}
-pub use Rattle.reductions.specs.Words.{All-back, All-front, All-head, All-tail, Any, ArgMax, ArgMin, BadAxis, Big, BoolScalar, Byte, Bytes, C, Descr, EachWithin, Eight, EmptyReduction, Four, Gives, Int, IsIndex, IsNumber, IsShape, IsValueOf, Items, Layout, LieWithin, Little, Maximum, Minimum, NotForThisKind, Product, Red, Refusal, Run, Scalar, ScalarDescr, Side, StridedAxis, Sum, TooLarge, Two, address, address_at, all_joined, all_offsets, check, check_passed, clamps, count, decode, dot, encode, encode_item, entry-first, false_from_ne_true, firsts-reordered, fold, fold-append, get_or-indexes, index_at, indexes, insert, integer, ints, is_bool, item_at, item_from, item_of_joined, item_size, joined, joined_list, length-encode, length-first, length-index, length-indexes, length-joined, length-offsets, length-run_offsets, list_all, list_any, low_bits, max_bytes, max_items, multiples, natural, not_negative, number, number_of, number_of_side, number_size, numbers-split, numbers-suc, numbers_from, offsets, offsets-none, offsets_in, one-encoded, pair_even, place, place-at, pos-offset, position, position-add, range_with_len, rank, rank-lt, remove, run_along, run_offsets, run_offsets-more, runs, runs-within, shape_of-same, size, wrap, ◌>>=◌}
+pub use Rattle.reductions.specs.Reductions.{depends_on_order, first_place, is_true, needs_items, reduced, reduced_item, reduced_items, result_scalar}
+pub use Rattle.reductions.specs.Words.{All-back, All-front, All-head, All-tail, Any, ArgMax, ArgMin, BadAxis, Big, BoolScalar, Byte, Bytes, C, Descr, EachWithin, Eight, EmptyReduction, Four, Gives, Int, IsIndex, IsNumber, IsShape, IsValueOf, Items, Layout, LieWithin, Little, Maximum, Minimum, NotForThisKind, Product, Red, Refusal, Run, Scalar, ScalarDescr, Side, StridedAxis, Sum, TooLarge, Two, address, address_at, all_joined, all_offsets, check, check_passed, clamps, count, decode, dot, encode, encode_item, entry-first, false_from_ne_true, firsts-reordered, fold, fold-append, get_or-indexes, index_at, indexes, insert, integer, ints, is_bool, item_at, item_from, item_number, item_of_joined, item_size, joined, joined_list, length-encode, length-first, length-index, length-indexes, length-joined, length-offsets, length-run_offsets, list_all, list_any, low_bits, max_bytes, max_items, multiples, natural, not_negative, number, number_of, number_of_side, number_size, numbers-split, numbers-suc, numbers_from, offsets, offsets-none, offsets_in, one-encoded, pair_even, place, place-at, pos-offset, position, position-add, range_with_len, rank, rank-lt, remove, run_along, run_offsets, run_offsets-more, runs, runs-within, shape_of-same, size, wrap, ◌>>=◌}
 unfoldable pub use Rattle.reductions.specs.Words.{shape_of}
 pub use Rattle.reductions.specs.declared.lines.Lines.{Lines}
 pub use Rattle.reductions.specs.inside.Extremes.{best_from, best_of, better, better-none, is_better}

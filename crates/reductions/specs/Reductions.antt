@@ -1,7 +1,7 @@
 -- What reductions give, as in NumPy: sums and products, least and greatest items and their places, and truth tests.
 use Rattle.std.specs.Prelude.{ℕ, ℤ, pos, ◌+ℤ◌, ◌*ℤ◌, Bool, true, false, not, if◌then◌else◌, List, [], ◌∷◌, map}
-use Rattle.std.proofs.Common.{suc, get_or}
-use Rattle.reductions.specs.Words.{int_min, int_max, fold, list_any, list_all, int_eq, Descr, Little, Eight, Scalar, Byte, Int, item_from, LeafValue, number, number_of, wrap, little, Red, Sum, Product, Minimum, Maximum, Any, All, ArgMin, ArgMax, ScalarDescr, RecordDescr, BoolScalar}
+use Rattle.std.proofs.Common.{suc}
+use Rattle.reductions.specs.Words.{int_min, int_max, fold, list_any, list_all, int_eq, Descr, Little, Eight, Scalar, Byte, Int, item_from, LeafValue, number, item_number, wrap, little, Red, Sum, Product, Minimum, Maximum, Any, All, ArgMin, ArgMax, ScalarDescr, RecordDescr, BoolScalar}
 
 -- ---- types
 
@@ -73,10 +73,6 @@ reduced ArgMin scalar numbers = pos (first_place (least numbers) numbers)
 reduced ArgMax scalar numbers = pos (first_place (greatest numbers) numbers)
 
 -- ---- items
-
--- an item as a number
-abbrev pub item_number : List LeafValue → ℤ
-item_number item = number_of (get_or item 0 (number (pos 0)))
 
 -- the result of reducing items, as an item of the result's type
 abbrev pub reduced_item : Red → Descr → List (List LeafValue) → List LeafValue

@@ -9,7 +9,7 @@ pub use Rattle.elem_descr.specs.Blocks.{item_from}
 pub use Rattle.elem_descr.specs.ByteLaws.{length-encode, one-encoded}
 pub use Rattle.elem_descr.specs.Encoding.{IsNumber, IsValueOf, bytes_of, decode, encode, integer, low_bits, number_in, number_of, size, wrap}
 pub use Rattle.elem_descr.specs.EncodingLaws.{low_bits-integer, low_bits-lt}
-pub use Rattle.elem_descr.specs.Items.{encode_item, item_size}
+pub use Rattle.elem_descr.specs.Items.{encode_item, item_number, item_size}
 pub use Rattle.elem_descr.specs.ListLaws.{first_is}
 pub use Rattle.elem_descr.specs.NumberLaws.{number_size}
 pub use Rattle.elem_descr.specs.RefusalLaws.{check_passed}

@@ -1,6 +1,6 @@
 -- A reader leaves fewer bytes than it was given.
 use Rattle.std.proofs.Common.{◌≡◌, ◌<◌, ◌≤◌, ℕ, zero, suc, Bool, true, false, List, [], ◌∷◌, length, Option, Some, None, arith, length-drop, nat_eq, codes, not, ◌==◌, subst, ℤ, nat_le, IfSome, if◌then◌else◌, ◌&&◌, ◌+◌, ◌*◌}
-use Rattle.script_lang.proofs.Words.{Shortens, prefix_len, option_map, bytes_eq, eqb-suc-zero, IndexItem, ScalarLiteral, Literal, Scalar, ReaderOf, ◌>>=◌, ◌or_else◌, if_found, one_part, two_parts, only, behind, is_blank, is_digit, is_name_byte, unspaced, byte_at, symbol_at, front_at, front_of, bytes_mark_at, is_parted, word_at, keyword_at, is_name, name_at, number_at, length_at, integer_at, optional_integer_at, in_turns, by_rule, closed, entry_first, comma_next, one_or_more, none_or_more, row, hex_value, hex_digit_at, escape_at, is_plain, plain_byte_at, text_byte_at, byte_text_at, scalar_at, record_at, literal_within, literal_at, step_at, slice_at, ellipsis_at, index_item_at}
+use Rattle.script_lang.proofs.Words.{Shortens, prefix_len, option_map, bytes_eq, eqb-suc-zero, IndexItem, ScalarLiteral, Literal, Scalar, ReaderOf, ◌>>=◌, ◌or_else◌, if_found, one_part, two_parts, only, behind, is_blank, is_ascii_digit, is_name_byte, unspaced, byte_at, symbol_at, front_at, front_of, bytes_mark_at, is_parted, word_at, keyword_at, is_name, name_at, number_at, length_at, integer_at, optional_integer_at, in_turns, by_rule, closed, entry_first, comma_next, one_or_more, none_or_more, row, hex_value, hex_digit_at, escape_at, is_plain, plain_byte_at, text_byte_at, byte_text_at, scalar_at, record_at, literal_within, literal_at, step_at, slice_at, ellipsis_at, index_item_at}
 use Rattle.script_lang.proofs.Rooms.{after_step, after_known, mapped, chosen, tested}
 
 -- fewer than `n` bytes remain: on their own, and after what is read
@@ -65,7 +65,7 @@ number_shorter : Shortens number_at
 unfolding number_at
 number_shorter bytes =
     let P = Less {A = List ℕ} (length bytes) in
-    part_within (length bytes) _ (only (λ digits. nat_le (length digits.0) 30 && is_parted digits.1) (front_at is_digit)) bytes (tested P (λ digits. nat_le (length digits.0) 30 && is_parted digits.1) (front_at is_digit) bytes (front_shorter is_digit bytes))
+    part_within (length bytes) _ (only (λ digits. nat_le (length digits.0) 30 && is_parted digits.1) (front_at is_ascii_digit)) bytes (tested P (λ digits. nat_le (length digits.0) 30 && is_parted digits.1) (front_at is_ascii_digit) bytes (front_shorter is_ascii_digit bytes))
 
 pub length_shorter : Shortens length_at
 unfolding length_at

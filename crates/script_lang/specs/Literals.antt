@@ -1,19 +1,19 @@
 -- Literals: integers, booleans, bytes and records.
 use Rattle.std.specs.Prelude.{ℕ, zero, suc, ◌+◌, ◌-◌, ◌*◌, ◌==◌, ℤ, Bool, true, false, List, [], ◌∷◌, length, codes, Option, Some, None, nat_eq, nat_le, if◌then◌else◌, not, ◌&&◌}
-use Rattle.script_lang.specs.Words.{option_map}
+use Rattle.script_lang.specs.Words.{option_map, is_ascii_digit}
 use Rattle.script_lang.specs.declared.literal.ScalarLiteral.{ScalarLiteral}
 use Rattle.script_lang.specs.declared.literal.ScalarLiteral.TheVariants.{Integer, Boolean, Bytes}
 use Rattle.script_lang.specs.declared.literal.Literal.{Literal}
 use Rattle.script_lang.specs.declared.literal.Literal.TheVariants.{Scalar, Record}
 use Rattle.script_lang.specs.Readers.{ReaderOf, ◌>>=◌, ◌or_else◌, if_found, one_part, two_parts, only}
-use Rattle.script_lang.specs.Tokens.{is_digit, unspaced, byte_at, symbol_at, is_at_end, bytes_mark_at, keyword_at, integer_at}
+use Rattle.script_lang.specs.Tokens.{unspaced, byte_at, symbol_at, is_at_end, bytes_mark_at, keyword_at, integer_at}
 use Rattle.script_lang.specs.Lists.{by_rule, none_or_more, row}
 use Rattle.script_lang.specs.Listed.{all_values}
 
 -- the value of a hexadecimal digit
 unfoldable pub hex_value : ℕ → Option ℕ
 hex_value b =
-    if is_digit b then Some (b - 48)
+    if is_ascii_digit b then Some (b - 48)
     else if nat_le 97 b && nat_le b 102 then Some (b - 87)
     else if nat_le 65 b && nat_le b 70 then Some (b - 55)
     else None

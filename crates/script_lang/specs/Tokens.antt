@@ -1,6 +1,6 @@
 -- The tokens of a line. Blanks may precede each token, except where a comment says 'at once'.
 use Rattle.std.specs.Prelude.{ℕ, ℤ, pos, neg_ℤ, Bool, true, false, List, [], ◌∷◌, length, Option, Some, None, is_some, nat_eq, nat_le, if◌then◌else◌, take, drop, not, ◌||◌, ◌&&◌}
-use Rattle.script_lang.specs.Words.{prefix_len, list_all, option_map, bytes_eq, value_of}
+use Rattle.script_lang.specs.Words.{is_ascii_digit, is_ascii_alphabetic, prefix_len, list_all, option_map, bytes_eq, value_of}
 use Rattle.script_lang.specs.Verbs.{verb_of, is_constant}
 use Rattle.script_lang.specs.Readers.{ReaderOf, ◌>>=◌, if_found, one_part, only}
 
@@ -8,18 +8,15 @@ use Rattle.script_lang.specs.Readers.{ReaderOf, ◌>>=◌, if_found, one_part, o
 abbrev pub is_blank : ℕ → Bool
 is_blank b = nat_eq b 32 || nat_eq b 9
 
-abbrev pub is_digit : ℕ → Bool
-is_digit b = nat_le 48 b && nat_le b 57
-
 abbrev pub is_sign : ℕ → Bool
 is_sign b = nat_eq b 43 || nat_eq b 45
 
 -- a letter or an underscore
 abbrev pub is_name_start : ℕ → Bool
-is_name_start b = (nat_le 65 b && nat_le b 90) || (nat_le 97 b && nat_le b 122) || nat_eq b 95
+is_name_start b = is_ascii_alphabetic b || nat_eq b 95
 
 abbrev pub is_name_byte : ℕ → Bool
-is_name_byte b = is_name_start b || is_digit b
+is_name_byte b = is_name_start b || is_ascii_digit b
 
 -- the bytes after the blanks at the front
 abbrev pub unspaced : List ℕ → List ℕ
@@ -92,7 +89,7 @@ name_at bytes = only (λ word. is_name word.0) word_at bytes
 -- one to 30 digits, at once
 unfoldable pub number_at : ReaderOf ℕ
 number_at bytes =
-    one_part value_of (only (λ digits. nat_le (length digits.0) 30 && is_parted digits.1) (front_at is_digit)) bytes
+    one_part value_of (only (λ digits. nat_le (length digits.0) 30 && is_parted digits.1) (front_at is_ascii_digit)) bytes
 
 -- an integer without a sign
 unfoldable pub length_at : ReaderOf ℕ

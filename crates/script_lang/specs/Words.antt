@@ -15,6 +15,7 @@ pub use Rattle.elem_descr.specs.declared.operators.UnOp.TheVariants.{Invert, Neg
 pub use Rattle.elem_descr.specs.declared.refusal.Refusal.{Refusal}
 pub use Rattle.elem_descr.specs.declared.refusal.Refusal.TheVariants.{ByteNotAllowed, OutOfMemory, Syntax}
 pub use Rattle.std.specs.Borrow.{Bor}
+pub use Rattle.std.specs.Char.{is_ascii_alphabetic, is_ascii_digit}
 pub use Rattle.std.specs.Coded.{Coded, code_by, coded_bool, coded_list, coded⊎}
 pub use Rattle.std.specs.List.{All, list_all, prefix_len}
 pub use Rattle.std.specs.Option.{option_and_then, option_map}

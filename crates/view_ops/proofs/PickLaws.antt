@@ -8,13 +8,13 @@ drop_on : (shape : List ℕ) (a end n : ℕ) → a ≤ end → end ≡ a + n →
 drop_on shape a end n later is = drop-drop n a shape ∙ ap (λ m. drop m shape) (sym is)
 
 -- one more item
-pub placed_more : {A : Type 0} (shape : List ℕ) (items : List (IndexItem A)) (k a end : ℕ) → k < length items → a ≤ end → end ≡ a + width (length shape - a) (get_or items k (Integer (pos 0))) (drop (k + 1) items) → placed (drop a shape) (drop k items) ≡ record { item = get_or items k (Integer (pos 0)); axes = slice_range shape a end } ∷ placed (drop end shape) (drop (k + 1) items)
+pub placed_more : {A : Type 0} (shape : List ℕ) (items : List (IndexItem A)) (k a end : ℕ) → k < length items → a ≤ end → end ≡ a + width axes_taken (length shape - a) (get_or items k (Integer (pos 0))) (drop (k + 1) items) → placed axes_taken (drop a shape) (drop k items) ≡ record { item = get_or items k (Integer (pos 0)); axes = slice_range shape a end } ∷ placed axes_taken (drop end shape) (drop (k + 1) items)
 placed_more shape items k a end low later is =
     let x = get_or items k (Integer (pos 0)) in
     let rest = drop (k + 1) items in
-    let size : width (length (drop a shape)) x rest ≡ end - a = ap (λ n. width n x rest) (length-drop a shape) ∙ omega (arith, is) in
+    let size : width axes_taken (length (drop a shape)) x rest ≡ end - a = ap (λ n. width axes_taken n x rest) (length-drop a shape) ∙ omega (arith, is) in
     let here : end ≡ a + (end - a) = omega arith in
-    ap (placed (drop a shape)) (drop_more items k (Integer (pos 0)) low) ∙ ap (λ n. record { item = x; axes = take n (drop a shape) } ∷ placed (drop n (drop a shape)) rest) size ∙ ap (λ s. record { item = x; axes = slice_range shape a end } ∷ placed s rest) (drop_on shape a end (end - a) later here)
+    ap (placed axes_taken (drop a shape)) (drop_more items k (Integer (pos 0)) low) ∙ ap (λ n. record { item = x; axes = take n (drop a shape) } ∷ placed axes_taken (drop n (drop a shape)) rest) size ∙ ap (λ s. record { item = x; axes = slice_range shape a end } ∷ placed axes_taken s rest) (drop_on shape a end (end - a) later here)
 
 -- ---- picks
 
@@ -72,7 +72,7 @@ pub record HavePicked {A : Type 0} (shape : List ℕ) (items : List (IndexItem A
 rest_hold : {X : Type 0} (p : X → Bool) (xs : List X) (k : ℕ) (d : X) → k < length xs → list_all p (drop k xs) ≡ true → list_all p (drop (k + 1) xs) ≡ true
 rest_hold p xs k d low all = (and_parts (p (get_or xs k d)) (list_all p (drop (k + 1) xs)) (sym (ap (list_all p) (drop_more xs k d low)) ∙ all)).1
 
-pub picked_more : {A : Type 0} (shape : List ℕ) (items : List (IndexItem A)) (done new : List AxisPick) (k axis end : ℕ) → k < length items → axis ≤ end → end ≤ length shape → axes_taken (drop (k + 1) items) ≤ length shape - end → end ≡ axis + width (length shape - axis) (get_or items k (Integer (pos 0))) (drop (k + 1) items) → HavePicked shape items done k axis → AddsPicks done new (slice_range shape axis end) (picks_of (slice_range shape axis end) (get_or items k (Integer (pos 0)))) → HavePicked shape items new (k + 1) end
+pub picked_more : {A : Type 0} (shape : List ℕ) (items : List (IndexItem A)) (done new : List AxisPick) (k axis end : ℕ) → k < length items → axis ≤ end → end ≤ length shape → axes_taken (drop (k + 1) items) ≤ length shape - end → end ≡ axis + width axes_taken (length shape - axis) (get_or items k (Integer (pos 0))) (drop (k + 1) items) → HavePicked shape items done k axis → AddsPicks done new (slice_range shape axis end) (picks_of (slice_range shape axis end) (get_or items k (Integer (pos 0)))) → HavePicked shape items new (k + 1) end
 picked_more shape items done new k axis end low later within enough is have adds =
     let x = get_or items k (Integer (pos 0)) in
     let axes = slice_range shape axis end in

@@ -15,10 +15,11 @@ takes_axis _ = true
 abbrev pub axes_taken : {A : Type 0} → List (IndexItem A) → ℕ
 axes_taken items = count_by takes_axis items
 
--- the number of axes that an item takes if `left` axes remain: `...` takes all but those of the items after it
-abbrev pub width : {A : Type 0} → ℕ → IndexItem A → List (IndexItem A) → ℕ
-width left Ellipsis later = left - axes_taken later
-width left item later = axes_taken (item ∷ [])
+-- The number of axes that an item takes if `left` axes remain: `...` takes all but those of the items after it. `taken`
+-- counts the axes of items, without those that `...` takes.
+abbrev pub width : {A : Type 0} → (List (IndexItem A) → ℕ) → ℕ → IndexItem A → List (IndexItem A) → ℕ
+width taken left Ellipsis later = left - taken later
+width taken left item later = taken (item ∷ [])
 
 -- an item and the lengths of the axes that it takes
 pub record Placed (A : Type 0) : Type 0 where
@@ -26,11 +27,11 @@ pub record Placed (A : Type 0) : Type 0 where
   pub axes : List ℕ
 
 -- The items of an index, each with the axes that it takes. The axes after the last item are taken as if by `...`.
-abbrev pub placed : {A : Type 0} → List ℕ → List (IndexItem A) → List (Placed A)
-placed shape [] = record { item = Ellipsis; axes = shape } ∷ []
-placed shape (item ∷ items) =
-    let n = width (length shape) item items in
-    record { item = item; axes = take n shape } ∷ placed (drop n shape) items
+abbrev pub placed : {A : Type 0} → (List (IndexItem A) → ℕ) → List ℕ → List (IndexItem A) → List (Placed A)
+placed taken shape [] = record { item = Ellipsis; axes = shape } ∷ []
+placed taken shape (item ∷ items) =
+    let n = width taken (length shape) item items in
+    record { item = item; axes = take n shape } ∷ placed taken (drop n shape) items
 
 -- ---- what is refused
 
@@ -63,7 +64,7 @@ picks_of (n ∷ axes) (Slice start stop step) = Along (result_unwrap_or (slice_i
 picks_of _ _ = []
 
 abbrev pub picks : {A : Type 0} → List ℕ → List (IndexItem A) → List Pick
-picks shape items = flat_map (λ p. picks_of p.axes p.item) (placed shape items)
+picks shape items = flat_map (λ p. picks_of p.axes p.item) (placed axes_taken shape items)
 
 -- ---- the view
 
@@ -93,5 +94,5 @@ unfoldable pub basic : {A : Type 0} → List ℕ → List (IndexItem A) → Resu
 basic shape items = do
   _ ← check (nat_le (axes_taken items) (length shape)) TooManyIndices
   _ ← check (list_all has_step items) ZeroStep
-  _ ← check (list_all (λ p. is_on_axis p.axes p.item) (placed shape items)) IndexOutOfRange
+  _ ← check (list_all (λ p. is_on_axis p.axes p.item) (placed axes_taken shape items)) IndexOutOfRange
   picked_view (picks shape items)

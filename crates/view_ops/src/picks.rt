@@ -36,7 +36,7 @@ pub(crate) fn axes_end<A>(rank: usize, axis: usize, items: &[IndexItem<A>], k: u
     requires axis { axis ≤ rank }
     requires enough { axes_taken (drop k items.now) ≤ rank - axis }
     ensures value { result
-        ≡ axis + width (rank - axis) (slice_index_or items.now k (Integer (pos 0)))
+        ≡ axis + width axes_taken (rank - axis) (slice_index_or items.now k (Integer (pos 0)))
         (drop (k + 1) items.now) }
     ensures from { axis ≤ result }
     ensures within { result ≤ rank }

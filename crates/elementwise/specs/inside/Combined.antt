@@ -1,8 +1,8 @@
 -- The results of a pairing on the items of two arrays, or on parts of them.
 use Rattle.std.specs.Prelude.{◌≡◌, ◌≤◌, true, List, ◌∷◌, [], map}
-use Rattle.elementwise.specs.Words.{Descr, LeafValue, Comparison, size, item_from, Items, Run, offsets, run_offsets, Owned, ScalarDescr, BoolScalar}
+use Rattle.elementwise.specs.Words.{Descr, LeafValue, Comparison, size, item_from, Items, Run, offsets, run_offsets, Owned, ScalarDescr, BoolScalar, value_in}
 use Rattle.elementwise.specs.Casts.{can_cast, cast_item}
-use Rattle.elementwise.specs.Results.{compared_item, pairwise, items_stretched, value_in}
+use Rattle.elementwise.specs.Results.{compared_item, pairwise, items_stretched}
 use Rattle.elementwise.specs.declared.operands.Broadcast.{Broadcast}
 use Rattle.elementwise.specs.declared.pairing.Pairing.{Pairing}
 use Rattle.elementwise.specs.inside.Made.{IsMade}

@@ -1,7 +1,7 @@
 -- The results on all pairs of items of two operands.
 use Rattle.std.specs.Prelude.{◌≡◌, ◌≤◌, ◌*◌, ℕ, List, [], ◌∷◌, length}
-use Rattle.elementwise.specs.Words.{concat, EachWithin, RunPair, LeafValue, item_size, items, count, offsets, size, max_bytes, Owned, ScalarDescr}
-use Rattle.elementwise.specs.Results.{pairwise, value_in}
+use Rattle.elementwise.specs.Words.{concat, EachWithin, RunPair, LeafValue, item_size, items, count, offsets, size, max_bytes, Owned, ScalarDescr, value_in}
+use Rattle.elementwise.specs.Results.{pairwise}
 use Rattle.elementwise.specs.inside.PairPasses.{pair_from}
 use Rattle.elementwise.specs.inside.Added.{AreAdded}
 use Rattle.elementwise.specs.inside.Made.{IsMade}

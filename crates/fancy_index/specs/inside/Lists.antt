@@ -1,7 +1,7 @@
 -- Index lists, item by item.
 use Rattle.std.specs.Prelude.{◌≡◌, ℕ, false, List, ◌∷◌, ◌++◌, length}
-use Rattle.fancy_index.specs.Words.{IndexItem, is_ellipsis}
-use Rattle.fancy_index.specs.IndexArrays.{IndexArray, item_axes, placed_arrays, left_over}
+use Rattle.fancy_index.specs.Words.{IndexItem, is_ellipsis, placed}
+use Rattle.fancy_index.specs.IndexArrays.{IndexArray, item_axes, array_axes_taken}
 use Rattle.fancy_index.specs.Sources.{index_items}
 use Rattle.fancy_index.specs.declared.lists.Left.{Left}
 
@@ -13,8 +13,7 @@ pub record IsNext (shape : List ℕ) (items : List (IndexItem IndexArray)) (item
   pub list : items ≡ item ∷ items'
   pub cut : shape ≡ axes ++ shape'
   pub many : is_ellipsis item ≡ false → length axes ≡ item_axes item
-  pub placed : placed_arrays shape items ≡ record { item = item; axes = axes } ∷ placed_arrays shape' items'
-  pub over : left_over shape items ≡ left_over shape' items'
+  pub placed : placed array_axes_taken shape items ≡ record { item = item; axes = axes } ∷ placed array_axes_taken shape' items'
 
 -- the same for what is left before and after the item is taken
 abbrev pub IsNextOf : Left → IndexItem IndexArray → List ℕ → Left → Type 0

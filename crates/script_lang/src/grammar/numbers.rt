@@ -1,6 +1,6 @@
 //! Numbers without a sign, integers, and the lists of numbers between parentheses.
 ghost use Rattle.std.specs.Prelude.{IfSome, List, Option, Some, length, true, ℕ, ◌<◌, ◌^◌, ◌≡◌, ◌≤◌};
-ghost use Rattle.script_lang.specs.Clauses.{value_of, numbers_at, Shortens, Takes, Scans, integer_at, is_digit, length_at, number_at, optional_integer_at, list_all};
+ghost use Rattle.script_lang.specs.Clauses.{value_of, numbers_at, Shortens, Takes, Scans, integer_at, is_ascii_digit, length_at, number_at, optional_integer_at, list_all};
 
 use crate::grammar::tokens::{Class, byte, front, is_parted, symbol, unspaced};
 use crate::short_list::ShortList;
@@ -13,7 +13,7 @@ const MAX_DIGITS: usize = 30;
 
 fn value_of(digits: &[u8]) -> u128
     requires few { length digits.now ≤ 30 }
-    requires digits { list_all is_digit digits.now ≡ true }
+    requires digits { list_all is_ascii_digit digits.now ≡ true }
     ensures value { result ≡ value_of digits.now }
     ensures small { result < 2 ^ 100 }
 {

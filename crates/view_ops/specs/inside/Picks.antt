@@ -5,7 +5,7 @@ use Rattle.view_ops.specs.declared.picks.AxisPick.{AxisPick}
 use Rattle.view_ops.specs.declared.picks.AxisPick.TheVariants.{At as AtAxis, Along as AlongAxis, New as NewAxis}
 use Rattle.view_ops.specs.declared.slice.Progression.{Progression}
 pub use Rattle.view_ops.specs.Picks.{pick_shown, ArePicks}
-use Rattle.view_ops.specs.Basics.{Pick, is_on_axis, picked_shape, placed}
+use Rattle.view_ops.specs.Basics.{Pick, axes_taken, is_on_axis, picked_shape, placed}
 
 -- The new list is the old one followed by picks of these axes, which are shown as `picks`.
 pub record AddsPicks (old new : List AxisPick) (axes : List ℕ) (picks : List Pick) : Type 0 where
@@ -15,7 +15,7 @@ pub record AddsPicks (old new : List AxisPick) (axes : List ℕ) (picks : List P
   pub show : map pick_shown added ≡ picks
 
 abbrev pub are_on_axes : {A : Type 0} → List ℕ → List (IndexItem A) → Bool
-are_on_axes shape items = list_all (λ p. is_on_axis p.axes p.item) (placed shape items)
+are_on_axes shape items = list_all (λ p. is_on_axis p.axes p.item) (placed axes_taken shape items)
 
 -- the shape of a view, or the refusal if it has too many axes
 unfoldable pub shape_picked : List Pick → Result (List ℕ) Refusal
