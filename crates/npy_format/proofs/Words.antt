@@ -24,6 +24,7 @@ pub use Rattle.npy_format.specs.inside.Places.{HasPairs, HasValues, StandIn, Sta
 pub use Rattle.npy_format.specs.inside.Scanned.{integer_at, is_quote, is_string_token, pad_at, string_at, token_of, truth_at}
 pub use Rattle.npy_format.specs.inside.Sound.{IsSound}
 pub use Rattle.npy_format.specs.inside.WrittenItems.{addresses_in_file, capped, gathered, limit, limits_from, read_leaf, written_item}
+pub use Rattle.std.proofs.Math.Bool.{and-false}
 pub use Rattle.std.proofs.Math.Nat.{min-zero, mod-lt, mul-add, mul-le-mul_left}
 pub use Rattle.std.proofs.Math.Seq.{drop-append-add, drop-append_seam, take-add, take-append_seam}
 pub use Rattle.std.proofs.lemmas.Bool.{and_parts, cases_lt, eqb-true, le-leb, le-ltb, leb-true, lt-leb, lt-ltb, ne_eqb, true≢false}

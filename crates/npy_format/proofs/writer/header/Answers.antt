@@ -1,5 +1,5 @@
-use Rattle.std.proofs.Common.{◌≡◌, List, ℕ, IfOk, ap, subst, ◌∙◌}
-use Rattle.npy_format.proofs.Words.{written_header, written_text}
+use Rattle.std.proofs.Common.{◌≡◌, List, ℕ, IfOk, subst, ◌∙◌}
+use Rattle.npy_format.proofs.Words.{written_header}
 use Rattle.npy_format.proofs.writer.header.Goals as goal
 
 pub returns : goal.returns
