@@ -4,9 +4,10 @@ ghost use Rattle.arrays.specs.Clauses.{assigned, items_at, offsets_in, EachWithi
 
 use crate::owned::Owned;
 use crate::packed::gather;
+use crate::size::bytes_of;
 use elem_descr::{Descr, MemoryOrder, Refusal};
 use raw_block::RawBlock;
-use shape_strides::{Layout, MAX_BYTES};
+use shape_strides::Layout;
 use std::alloc::{AllocError, Global};
 
 /// The items, of `width` bytes, of a layout, adjacent in this order in a block of their own.
@@ -57,11 +58,8 @@ pub fn copy(
         ≡ (if nat_le (count layout.now.shape * item_size descr.now) max_bytes
         then OutOfMemory else TooLarge)) }
 {
+    bytes_of(layout.shape.items(), descr)?;
     let item = descr.size();
-    let len = layout.shape.items() * item;
-    if len > MAX_BYTES {
-        return Err(Refusal::TooLarge);
-    }
     let descr = Descr::try_copy(alloc, descr)?;
     let block = gather_in(alloc, order, block, layout, item)?;
     let copy = Owned::over(alloc, descr, &layout.shape, order, block)?;

@@ -2,9 +2,10 @@
 ghost use Rattle.std.specs.Prelude.{◌≡◌, ◌*◌, ◌≤◌, length, nat_le, replicate, if◌then◌else◌, IfOk, IfErr};
 ghost use Rattle.arrays.specs.Clauses.{OutOfMemory, TooLarge, item_size, C, max_bytes, count, offsets, FillsBlock, offsets_in};
 
+use crate::size::bytes_of;
 use elem_descr::{Descr, MemoryOrder, Refusal};
 use raw_block::RawBlock;
-use shape_strides::{Layout, MAX_BYTES, Shape};
+use shape_strides::{Layout, Shape};
 use std::alloc::{AllocError, Global};
 
 /// A block and the items in it: of one descriptor, adjacent in C order or in Fortran order, from
@@ -31,10 +32,7 @@ impl Owned {
             ≡ (if nat_le (count shape.now * item_size descr) max_bytes
             then OutOfMemory else TooLarge)) }
     {
-        let len = shape.items() * descr.size();
-        if len > MAX_BYTES {
-            return Err(Refusal::TooLarge);
-        }
+        let len = bytes_of(shape.items(), &descr)?;
         let block = RawBlock::try_zeroed(alloc, len)?;
         Ok(Owned::over(alloc, descr, shape, MemoryOrder::C, block)?)
     }

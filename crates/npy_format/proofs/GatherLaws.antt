@@ -1,6 +1,6 @@
 -- Appending items one after another.
 use Rattle.std.proofs.Common.{◌≡◌, inl, inr, ℕ, suc, ◌+◌, ◌*◌, ◌^◌, ◌<◌, ◌≤◌, ◌&&◌, ◌||◌, not, true, false, Bool, pos, List, [], ◌∷◌, ◌++◌, length, get_or, take, drop, replicate, reverse, All, refl, sym, ap, subst, ◌∙◌, arith, append_assoc, zero-mul, suc-mul, length-append, ◌==◌, if◌then◌else◌}
-use Rattle.npy_format.proofs.Words.{flat_map, Each, take-add, eqb-true, true≢false, cases_lt, flat_map-append, append-nil, drop-drop, length-map, get_or-map, get_or_past, length-reverse, All-head, All-tail, All-from_recursion, place, item_at, EachWithin, begins_within, Run, count, indexes, rank, length-indexes, rank-lt, get_or-indexes, index_at, rank-zeros, IsIndex-first, zero_filled, count-reverse, IsIndex-from_reverse, first_address, fortran_order, is_c_contiguous, is_f_contiguous, Layout, max_items, offsets, length-offsets, run_offsets, runs, first_address-entry, length-run_offsets, run_offsets-more, place-at, run-ends, length-fortran, reverse-replicate, gathered, addresses_in_file}
+use Rattle.npy_format.proofs.Words.{and_parts, flat_map, Each, take-add, eqb-true, true≢false, cases_lt, flat_map-append, append-nil, drop-drop, length-map, get_or-map, get_or_past, length-reverse, All-head, All-tail, All-from_recursion, place, item_at, EachWithin, begins_within, Run, count, indexes, rank, length-indexes, rank-lt, get_or-indexes, index_at, rank-zeros, IsIndex-first, zero_filled, count-reverse, IsIndex-from_reverse, first_address, fortran_order, is_c_contiguous, is_f_contiguous, Layout, max_items, offsets, length-offsets, run_offsets, runs, first_address-entry, length-run_offsets, run_offsets-more, place-at, run-ends, length-fortran, reverse-replicate, gathered, addresses_in_file}
 
 -- ---- adjacent items
 
@@ -29,12 +29,8 @@ pub adjacent-contiguous : (width : ℕ) (offsets : List ℕ) → is_c_contiguous
 adjacent-contiguous width [] is = tt
 adjacent-contiguous width (offset ∷ []) is = (refl, tt)
 adjacent-contiguous width (offset ∷ next ∷ offsets) is =
-    let parts = both (next == offset + width) (is_c_contiguous width (next ∷ offsets)) is in
+    let parts = and_parts (next == offset + width) (is_c_contiguous width (next ∷ offsets)) is in
     (refl, subst (λ at. AreAdjacent width at (next ∷ offsets)) (eqb-true next (offset + width) parts.0) (adjacent-contiguous width (next ∷ offsets) parts.1))
-  where
-    both : (a b : Bool) → (a && b) ≡ true → (a ≡ true) × (b ≡ true)
-    both true b is = (refl, is)
-    both false b is = absurd (true≢false (sym is))
 
 adjacent-entries : (width at : ℕ) (offsets : List ℕ) → ((k : ℕ) → k < length offsets → get_or offsets k 0 ≡ at + k * width) → AreAdjacent width at offsets
 adjacent-entries width at [] entries = tt

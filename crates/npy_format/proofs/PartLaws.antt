@@ -55,7 +55,7 @@ header_more file more text behind e =
 
 -- To load a file is to load the bytes after its header.
 pub load_split : (file text behind : List ℕ) → split_header file ≡ Ok (text, behind) → load file ≡ load_behind text behind
-unfolding load load_behind
+unfolding load
 load_split file text behind is = rw is refl
 
 -- items with nothing after them

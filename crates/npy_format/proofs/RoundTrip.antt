@@ -1,6 +1,6 @@
 -- The file of an array loads as that array.
 use Rattle.std.proofs.Common.{◌≡◌, ℕ, zero, suc, ◌+◌, ◌-◌, ◌*◌, ◌<◌, ◌≤◌, true, false, Bool, pos, List, [], ◌∷◌, ◌++◌, map, length, get_or, take, drop, replicate, reverse, codes, All, Ok, refl, sym, ap, Result, ◌∙◌, arith, append_assoc, length-append, zero-mul, suc-mul, if◌then◌else◌}
-use Rattle.npy_format.proofs.Words.{flat_map, range_with_len, take-append_seam, drop-append_seam, drop-append-add, le-leb, append-nil, length-map, get_or-map, ext_get_or, length-replicate, reverse-reverse, length-map-range_with_len, get_or-map-range_with_len, item_at, length-item_at, Leaf, Scalar, Descr, Refusal, ◌>>=◌, fortran_order, length-fortran, LeafValue, number, size, decode, encode, truth, item_size, leaves_of, AreInOrder, encode_from, encode_item, decode_item, AreInOrder-within, leaves_in_order, item_from, AreBytes, bytes-drop, bytes-take, truth-twice, length-encode, max_bytes, count, indexes, rank, length-indexes, rank-lt, get_or-indexes, index_at, count-reverse, IsIndex-reverse, IsShape, offsets_in, BoolScalar, ScalarDescr, RecordDescr, Header, load, file_order, data_size, split_front, split_header, header, written_text, written_header, ordered, file_of, LoadsAs, IsSound, read_leaf}
+use Rattle.npy_format.proofs.Words.{flat_map, range_with_len, take-append_seam, drop-append_seam, drop-append-add, le-leb, append-nil, length-map, get_or-map, ext_get_or, length-replicate, reverse-reverse, length-map-range_with_len, get_or-map-range_with_len, item_at, length-item_at, Leaf, Scalar, Descr, Refusal, ◌>>=◌, fortran_order, length-fortran, LeafValue, number, size, decode, encode, truth, item_size, leaves_of, AreInOrder, encode_from, encode_item, decode_item, AreInOrder-within, leaves_in_order, item_from, AreBytes, bytes-drop, bytes-take, truth-twice, length-encode, max_bytes, count, indexes, rank, length-indexes, rank-lt, get_or-indexes, index_at, count-reverse, IsIndex-reverse, IsShape, offsets_in, BoolScalar, ScalarDescr, RecordDescr, Header, load, load_behind, file_order, data_size, split_front, split_header, header, written_text, written_header, ordered, file_of, LoadsAs, IsSound, read_leaf}
 use Rattle.npy_format.proofs.GatherLaws.{fortran-within}
 use Rattle.npy_format.proofs.WriterLaws.{ordered-items}
 use Rattle.npy_format.proofs.ScalarBytes.{scalar_again}
@@ -78,7 +78,7 @@ all_length f width (item ∷ items) long = omega (arith, length-append (f item) 
 
 -- a file in which only the items follow the header
 load_is : (file text items : List ℕ) (head : Header) → split_header file ≡ Ok (text, items) → header text ≡ Ok head → data_size head ≤ max_bytes → length items ≡ data_size head → load file ≡ Ok (record { head = head; items = items; rest = 0 })
-unfolding load
+unfolding load load_behind
 load_is file text items head split is small whole =
     rw (split, is, le-leb (data_size head) max_bytes small) (ap (λ (r : Result (List ℕ × List ℕ) Refusal). r >>= λ body. Ok (record { head = head; items = body.0; rest = length body.1 })) body)
   where

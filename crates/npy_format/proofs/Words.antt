@@ -1,6 +1,6 @@
 -- Names from std, from the crates below and from `specs/`, which the proofs use.
-pub use Rattle.npy_format.specs.Files.{HoldsFileItems, Loads, data_size, file_order, length_bytes, magic, max_header, split_front, text_behind}
-unfoldable pub use Rattle.npy_format.specs.Files.{load, split_header}
+pub use Rattle.npy_format.specs.Files.{HoldsFileItems, Loads, begins_well, data_size, file_order, length_bytes, magic, max_header, split_front, text_behind}
+unfoldable pub use Rattle.npy_format.specs.Files.{load, load_behind, split_header}
 pub use Rattle.npy_format.specs.Headers.{HeaderAnyTurns, dictionary_of, header, integers_of, is_string, lengths_of, truth_of, value_under}
 unfoldable pub use Rattle.npy_format.specs.Headers.{header_of}
 pub use Rattle.npy_format.specs.Listed.{Literal, Pair, Plain, Row, all_listed_values, value_literals}
@@ -20,11 +20,11 @@ pub use Rattle.npy_format.specs.WrittenHeaders.{entries, entry, gap, in_brackets
 pub use Rattle.npy_format.specs.declared.header.Header.{Header}
 pub use Rattle.npy_format.specs.declared.token.Token.{Token as Scanned}
 pub use Rattle.npy_format.specs.inside.Entries.{behind, behind_all, behind_comma, behind_entries, behind_entry, behind_key, behind_one}
-unfoldable pub use Rattle.npy_format.specs.inside.LoadedParts.{begins_well, load_behind}
 pub use Rattle.npy_format.specs.inside.Places.{HasPairs, HasValues, StandIn, Stands, entry_parts, is_key, name_and_type, shape_under, value_in}
 pub use Rattle.npy_format.specs.inside.Scanned.{integer_at, is_quote, is_string_token, pad_at, string_at, token_of, truth_at}
 pub use Rattle.npy_format.specs.inside.Sound.{IsSound}
 pub use Rattle.npy_format.specs.inside.WrittenItems.{addresses_in_file, capped, gathered, limit, limits_from, read_leaf, written_item}
+pub use Rattle.std.proofs.Math.Bool.{and-false}
 pub use Rattle.std.proofs.Math.Nat.{min-zero, mod-lt, mul-add, mul-le-mul_left}
 pub use Rattle.std.proofs.Math.Seq.{drop-append-add, drop-append_seam, take-add, take-append_seam}
 pub use Rattle.std.proofs.lemmas.Bool.{and_parts, cases_lt, eqb-true, le-leb, le-ltb, leb-true, lt-leb, lt-ltb, ne_eqb, true≢false}

@@ -1,14 +1,10 @@
 -- The entries of a list, written one after another.
 use Rattle.std.proofs.Common.{◌≡◌, ◌≤◌, ◌<◌, ◌+◌, ◌-◌, ℕ, zero, suc, Bool, true, false, ◌&&◌, List, [], ◌∷◌, ◌++◌, codes, decimal, length, get_or, drop, refl, sym, ap, ◌∙◌, append_assoc, nat_eq, arith}
-use Rattle.npy_format.proofs.Words.{at_drop_all, flat_map, ne_eqb, Field, Descr, Fields, listed, before, item_size, rest_at, ScalarDescr, RecordDescr, quoted, opened_entry, entry, gap, entry_separator, separated, in_brackets, entries, written_descr}
+use Rattle.npy_format.proofs.Words.{and-false, at_drop_all, flat_map, ne_eqb, Field, Descr, Fields, listed, before, item_size, rest_at, ScalarDescr, RecordDescr, quoted, opened_entry, entry, gap, entry_separator, separated, in_brackets, entries, written_descr}
 
 entries_before : (from : ℕ) (name : List ℕ) (at : ℕ) (descr : Descr) (rest : Fields) (bytes : ℕ) → entries from (before name at descr rest) bytes ≡ gap (at - from) ++ (entry name (written_descr descr) ∷ entries (at + item_size descr) rest bytes)
 entries_before from name at (ScalarDescr scalar) rest bytes = refl
 entries_before from name at (RecordDescr structure) rest bytes = refl
-
-not_first : (first : Bool) → false ≡ (first && false)
-not_first true = refl
-not_first false = refl
 
 after_gap : (first : Bool) (text rest : List ℕ) → entry_separator first ++ (text ++ (codes ", " ++ rest)) ≡ (entry_separator first ++ (text ++ [])) ++ (codes ", " ++ rest)
 after_gap first text rest = sym (append_assoc (entry_separator first) (text ++ []) (codes ", " ++ rest) ∙ ap (λ t. entry_separator first ++ t) (append_assoc text [] (codes ", " ++ rest)))
@@ -21,7 +17,7 @@ separated_gap first (suc n) text texts =
     let other : nat_eq (suc n) 0 ≡ false = ne_eqb (suc n) 0 (λ same. omega (arith, same)) in
     let rest = text ++ separated false texts in
     after_gap first (entry [] (quoted (codes "|V" ++ decimal (suc n)))) rest
-    ∙ ap (λ b. separated first (gap (suc n)) ++ (entry_separator b ++ rest)) (not_first first ∙ ap (λ b. first && b) (sym other))
+    ∙ ap (λ b. separated first (gap (suc n)) ++ (entry_separator b ++ rest)) (sym (and-false first) ∙ ap (λ b. first && b) (sym other))
 
 regroup : (a b c d e f g : List ℕ) → ((((a ++ b) ++ (c ++ d)) ++ e) ++ f) ++ g ≡ a ++ (b ++ (c ++ ((d ++ (e ++ f)) ++ g)))
 regroup a b c d e f g = simp append_assoc

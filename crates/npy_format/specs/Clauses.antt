@@ -1,5 +1,5 @@
 -- What the contracts of this crate cite: its own definitions, and names from std and from the crates below.
-pub use Rattle.npy_format.specs.Files.{HoldsFileItems, Loads, data_size, file_order, length_bytes, load, magic, split_front, split_header, text_behind}
+pub use Rattle.npy_format.specs.Files.{HoldsFileItems, Loads, begins_well, data_size, file_order, length_bytes, load, load_behind, magic, split_front, split_header, text_behind}
 pub use Rattle.npy_format.specs.Headers.{HeaderAnyTurns, dictionary_of, header, header_of, value_under}
 pub use Rattle.npy_format.specs.Listed.{Literal, Pair}
 pub use Rattle.npy_format.specs.RecordLists.{descr_in, entry_in, field_in, pad_kind, record_in}
@@ -10,7 +10,6 @@ unfoldable pub use Rattle.npy_format.specs.Words.{offsets, shape_of}
 pub use Rattle.npy_format.specs.WrittenFiles.{is_fortran, saved}
 pub use Rattle.npy_format.specs.WrittenHeaders.{entries, gap, in_brackets, padded_text, quoted, written_descr, written_header, written_text, written_truth}
 pub use Rattle.npy_format.specs.inside.FieldTypes.{scalar_in, type_in}
-pub use Rattle.npy_format.specs.inside.LoadedParts.{begins_well, load_behind}
 pub use Rattle.npy_format.specs.inside.Places.{BeginsWith, HasPairs, HasValues, Stands, entry_parts, shape_under}
 pub use Rattle.npy_format.specs.inside.Scanned.{is_string_token, pad_at, string_at, token_of, truth_at}
 pub use Rattle.npy_format.specs.inside.Sound.{IsSound}

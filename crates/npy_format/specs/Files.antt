@@ -29,10 +29,14 @@ text_behind field behind =
     let n = little_number (length field) field in
     check (nat_le n max_header) TooLarge >>= λ _. split_front n behind
 
+-- whether a file begins with the magic bytes; a file that is too short for them does not
+abbrev pub begins_well : List ℕ → Bool
+begins_well file = bytes_eq (take 6 file) magic
+
 -- the text of a file's header, and the bytes after it
 unfoldable pub split_header : List ℕ → Result (List ℕ × List ℕ) Refusal
 split_header file = do
-  _ ← check (bytes_eq (take 6 file) magic) BadMagic
+  _ ← check (begins_well file) BadMagic
   version ← split_front 2 (drop 6 file)
   width ← length_bytes version.0
   field ← split_front width version.1
@@ -48,14 +52,17 @@ pub record Loaded : Type 0 where
   pub items : List ℕ
   pub rest : ℕ
 
--- what is loaded from a file, or the first refusal; the offset at which the items begin is not checked
-unfoldable pub load : List ℕ → Result Loaded Refusal
-load file = do
-  parts ← split_header file
-  head ← header parts.0
+-- what is loaded, given the text of the header and the bytes after it; the offset at which the items begin is not checked
+unfoldable pub load_behind : List ℕ → List ℕ → Result Loaded Refusal
+load_behind text behind = do
+  head ← header text
   _ ← check (nat_le (data_size head) max_bytes) TooLarge
-  body ← split_front (data_size head) parts.1
+  body ← split_front (data_size head) behind
   Ok (record { head = head; items = body.0; rest = length body.1 })
+
+-- what is loaded from a file, or the first refusal
+unfoldable pub load : List ℕ → Result Loaded Refusal
+load file = split_header file >>= λ parts. load_behind parts.0 parts.1
 
 -- the order of the items in a file
 abbrev pub file_order : Bool → MemoryOrder

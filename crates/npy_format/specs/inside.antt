@@ -3,6 +3,5 @@ pub mod Scanned
 pub mod Places
 pub mod WrittenItems
 pub mod Sound
-pub mod LoadedParts
 pub mod FieldTypes
 pub mod WrittenParts

@@ -1,6 +1,6 @@
 //! Appends the bytes of items as a file stores them: a bool is 0 or 1, and padding is zero.
 ghost use Rattle.std.specs.Prelude.{All, IfOk, IsTrue, OnOk, length, pos, replicate, ◌*◌, ◌++◌, ◌+◌, ◌-◌, ◌<ℤ◌, ◌<◌, ◌^◌, ◌||◌, ◌≡◌, ◌≤ℤ◌, ◌≤◌};
-ghost use Rattle.npy_format.specs.Clauses.{AreInOrder, EachWithin, blocks, count, decode_item, encode_item, is_c_contiguous, is_f_contiguous, item_at, item_size, leaves_of, max_bytes, offsets, place, position, put, run_offsets, addresses_in_file, as_in_file, capped, gathered, limit, limits_from, flat_map, repeat};
+ghost use Rattle.npy_format.specs.Clauses.{AreInOrder, EachWithin, blocks, count, decode_item, encode_item, is_c_contiguous, is_f_contiguous, is_fortran, item_at, item_size, leaves_of, max_bytes, offsets, place, position, put, run_offsets, addresses_in_file, as_in_file, capped, gathered, limit, limits_from, flat_map, repeat};
 
 use elem_descr::{Descr, Leaf, Scalar};
 use raw_block::part;
@@ -44,30 +44,38 @@ fn push_run(file: &mut Vec<u8>, bytes: &[u8], run: Run, width: usize) -> Result<
     Ok(())
 }
 
-/// Whether items of `width` bytes are adjacent in C order or in Fortran order.
-pub(crate) fn are_together(layout: &Layout, width: usize) -> bool
-    ensures { result ≡ (is_c_contiguous width (offsets layout.now)
+/// Whether items of `width` bytes are adjacent in C order or in Fortran order, and whether they are
+/// in Fortran order and not in C order.
+pub(crate) fn adjacency(layout: &Layout, width: usize) -> (bool, bool)
+    ensures together { result.0 ≡ (is_c_contiguous width (offsets layout.now)
         || is_f_contiguous width layout.now.shape (offsets layout.now)) }
+    ensures fortran { result.1 ≡ is_fortran width layout.now.shape (offsets layout.now) }
 {
-    layout.is_c(width) || layout.is_f(width)
+    let in_c = layout.is_c(width);
+    let fortran = !in_c && layout.is_f(width);
+    (in_c || fortran, fortran)
 }
 
 /// Appends the items of `width` bytes of a layout in the order in which a file stores them.
+/// `together` says whether they are adjacent in this order.
 pub(crate) fn push_items(
     file: &mut Vec<u8>,
     bytes: &[u8],
     layout: &Layout,
     width: usize,
+    together: bool,
 ) -> Result<(), AllocError>
     requires inside { All (λ offset. offset + width ≤ length bytes.now) (offsets layout.now) }
     requires width { width ≤ 65536 }
+    requires together { together ≡ (is_c_contiguous width (offsets layout.now)
+        || is_f_contiguous width layout.now.shape (offsets layout.now)) }
     ensures { OnOk result
         (file.new.items ≡ file.old.items
         ++ gathered width bytes.now
         (addresses_in_file width layout.now.shape (offsets layout.now))) }
 {
     let count = layout.shape.items();
-    if are_together(layout, width) {
+    if together {
         return file.extend_from_slice(part(bytes, layout.first_address(), count * width));
     }
     for run in Runs::new(layout) {

@@ -3,11 +3,10 @@ ghost use Rattle.std.specs.Prelude.{◌≡◌, ◌≤◌, ◌^◌, ◌++◌, len
 ghost use Rattle.npy_format.specs.Clauses.{Answers, Gives, max_bytes, split_front, begins_well, length_bytes, text_behind, split_header, data_size, file_order, load, HoldsFileItems, Loads, load_behind};
 
 use crate::header::{Header, header_read};
-use arrays::Owned;
+use arrays::{Owned, bytes_of};
 use byteorder::{ByteOrder, LittleEndian};
 use elem_descr::{MemoryOrder, Refusal};
 use raw_block::RawBlock;
-use shape_strides::MAX_BYTES;
 use std::alloc::{AllocError, Global};
 
 /// The maximum length of a header.
@@ -99,7 +98,7 @@ fn order_of(fortran: bool) -> MemoryOrder
 
 /// What a file holds whose header has this text: the header, the bytes of the items, and those left
 /// over.
-#[tactic(auto, unfolding(crate::specs::inside::LoadedParts::load_behind))]
+#[tactic(auto, unfolding(crate::specs::Files::load_behind))]
 pub(crate) fn contents<'a>(
     alloc: Global,
     text: &[u8],
@@ -112,10 +111,7 @@ pub(crate) fn contents<'a>(
     ensures all { IfOk result (λ c. c.1.now ++ c.2.now ≡ behind.now) }
 {
     let header = header_read(alloc, text)?;
-    let size = header.shape.items() * header.descr.size();
-    if size > MAX_BYTES {
-        return Err(Refusal::TooLarge);
-    }
+    let size = bytes_of(header.shape.items(), &header.descr)?;
     let (items, rest) = split_front(size, behind)?;
     Ok((header, items, rest))
 }

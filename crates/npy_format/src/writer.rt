@@ -4,10 +4,11 @@ ghost use Rattle.npy_format.specs.Clauses.{TooLarge, Gives, item_size, item_from
 
 use crate::file_header::file_header;
 use crate::header_text::header_text;
-use crate::items::{are_plain, are_together, item_limits, push_items, write_items};
+use crate::items::{adjacency, are_plain, item_limits, push_items, write_items};
+use arrays::bytes_of;
 use elem_descr::{Descr, Refusal};
 use raw_block::{RawBlock, part};
-use shape_strides::{Layout, MAX_BYTES};
+use shape_strides::{Layout, Shape};
 use std::alloc::{AllocError, Global};
 
 /// A file in two parts, the second of which may be the bytes of a block.
@@ -17,30 +18,16 @@ pub struct SavedParts<'a> {
     pub items: &'a [u8],
 }
 
-/// Whether items of `width` bytes are adjacent in Fortran order and not in C order.
-fn is_fortran(layout: &Layout, width: usize) -> bool
-    ensures { result ≡ is_fortran width layout.now.shape (offsets layout.now) }
+/// The bytes of a file before its items.
+fn header(alloc: Global, descr: &Descr, fortran: bool, shape: &Shape) -> Result<Vec<u8>, AllocError>
+    ensures { IfOk result
+        (λ file. file.items ≡ written_header (written_text descr.now fortran shape.now)) }
 {
-    !layout.is_c(width) && layout.is_f(width)
-}
-
-/// The bytes of a file before the items of `width` bytes of a layout.
-fn header(
-    alloc: Global,
-    descr: &Descr,
-    layout: &Layout,
-    width: usize,
-) -> Result<Vec<u8>, AllocError>
-    ensures { let fortran = is_fortran width layout.now.shape (offsets layout.now) in
-        IfOk result
-        (λ file. file.items ≡ written_header (written_text descr.now fortran layout.now.shape)) }
-{
-    let fortran = is_fortran(layout, width);
-    let text = header_text(alloc, descr, fortran, &layout.shape)?;
+    let text = header_text(alloc, descr, fortran, shape)?;
     file_header(alloc, text.as_slice())
 }
 
-/// What holds for an element type.
+/// What holds for an element type. For the prover alone.
 fn look_at(descr: &Descr)
     ensures { IsSound descr.now }
 {
@@ -50,7 +37,7 @@ fn look_at(descr: &Descr)
     };
 }
 
-/// What is saved of the items of a layout loads again.
+/// What is saved of the items of a layout loads again. For the prover alone.
 fn will_load(bytes: &[u8], layout: &Layout, descr: &Descr)
     requires { All (λ offset. offset + item_size descr.now ≤ length bytes.now)
         (offsets layout.now) }
@@ -85,20 +72,18 @@ pub fn npy_parts<'a>(
 {
     let bytes = block.bytes();
     will_load(bytes, layout, descr);
+    let len = bytes_of(layout.shape.items(), descr)?;
     let width = descr.size();
-    let len = layout.shape.items() * width;
-    if len > MAX_BYTES {
-        return Err(Refusal::TooLarge);
-    }
-    let mut front = header(alloc, descr, layout, width)?;
+    let (together, fortran) = adjacency(layout, width);
+    let mut front = header(alloc, descr, fortran, &layout.shape)?;
     let limits = item_limits(alloc, descr)?;
-    if are_plain(&limits) && are_together(layout, width) {
+    if together && are_plain(&limits) {
         let items = part(bytes, layout.first_address(), len);
         return Ok(SavedParts { front, items });
     }
     let start = front.len();
     front.reserve_exact(len)?;
-    push_items(&mut front, bytes, layout, width)?;
+    push_items(&mut front, bytes, layout, width, together)?;
     write_items(
         alloc,
         &mut front.as_mut_slice()[start..],
@@ -115,6 +100,8 @@ pub fn npy_parts<'a>(
 ///
 /// More than 2^28 bytes of items are `TooLarge`. Every other file loads as an array of the same
 /// element type, shape and items, whether or not there is memory to write it.
+///
+/// For programs that keep files in memory; `save` passes the two parts on.
 pub fn npy_write(
     alloc: Global,
     block: &RawBlock,

@@ -6,14 +6,14 @@ use Rattle.npy_format.proofs.items.push_items.Goals as goal
 pub part-requires : goal.part-requires
 part-requires c =
     let l = c.args.layout.now in
-    let all = together c.args.width l.shape (offsets l) c.args.bytes.now (length-offsets l) c.requires.inside (sym c.are_together.ensures ∙ c.if-are_together.true) in
+    let all = together c.args.width l.shape (offsets l) c.args.bytes.now (length-offsets l) c.requires.inside (sym c.requires.together ∙ c.if-together.true) in
     let ends = all.ends in
     omega (arith, ends, c.first_address.ensures, ap (λ n. n * c.args.width) c.items-count.ensures.value)
 
-pub returns-then-are_together : goal.returns-then-are_together
-returns-then-are_together c =
+pub returns-then-together : goal.returns-then-together
+returns-then-together c =
     let l = c.args.layout.now in
-    let all = together c.args.width l.shape (offsets l) c.args.bytes.now (length-offsets l) c.requires.inside (sym c.are_together.ensures ∙ c.if-are_together.true) in
+    let all = together c.args.width l.shape (offsets l) c.args.bytes.now (length-offsets l) c.requires.inside (sym c.requires.together ∙ c.if-together.true) in
     let is : gathered c.args.width c.args.bytes.now (addresses_in_file c.args.width l.shape (offsets l)) ≡ c.part.result.now = all.joined ∙ (λ i. item_at (sym c.first_address.ensures i) (sym c.items-count.ensures.value i * c.args.width) c.args.bytes.now) ∙ sym c.part.ensures.value in
     rw is (search rules)
 
@@ -23,7 +23,7 @@ loop-run-init c =
     let len = length c.args.bytes.now in
     let width = c.args.width in
     let ends = subst (All (λ offset. offset + width ≤ len)) (sym c.new-run-items.ensures.offsets) c.requires.inside in
-    let none = in_file-none width l.shape (offsets l) (sym c.are_together.ensures ∙ c.if-are_together.false) in
+    let none = in_file-none width l.shape (offsets l) (sym c.requires.together ∙ c.if-together.false) in
     let it : c.into_iter-run-iterator.result ≡ c.new-run-items.result = search rules in
     let made = it ∙ c.new-run-items.ensures.runs in
     record {
