@@ -2,7 +2,7 @@ use Rattle.std.proofs.Common.{◌≡◌, ◌-◌, ℤ, List, ◌∷◌, pos, map
 use Rattle.reductions.proofs.Words.{Little, numbers_from, place, natural, run_offsets, line_run, line_first, numbers_at, lines, AddsReduced}
 use Rattle.reductions.proofs.LineLaws.{front, numbers-first}
 use Rattle.reductions.proofs.AddedLaws.{adds_none, line_added, has_room}
-use Rattle.reductions.proofs.fills.push_held.Goals as goal
+use Rattle.reductions.proofs.fast.push_held.Goals as goal
 
 pub loop-j-init : goal.loop-j-init
 loop-j-init g c = adds_none g.F.Fold.reduction (g.S.Number.scalar g.O.Ordered.order) c.args.lines.starts.bytes.now g.F.Total.Number.WIDTH c.args.block

@@ -1,7 +1,7 @@
 use Rattle.std.proofs.Common.{◌+◌, [], ◌∷◌, length, ap, subst, sym, ◌∙◌, arith, length-append}
 use Rattle.reductions.proofs.Words.{number_of_side, EachOf}
 use Rattle.reductions.proofs.HeldLaws.{each_more}
-use Rattle.reductions.proofs.fills.begin.Goals as goal
+use Rattle.reductions.proofs.fast.begin.Goals as goal
 
 pub loop-j-init : goal.loop-j-init
 loop-j-init g c = record {

@@ -1,7 +1,7 @@
 use Rattle.std.proofs.Common.{◌<◌, ℕ, [], ◌∷◌, ◌++◌, length, refl, sym, subst, ◌∙◌, arith}
 use Rattle.reductions.proofs.Words.{length-set, get_or_default, number_of_side, TakesIn}
 use Rattle.reductions.proofs.HeldLaws.{pair_set, later_set}
-use Rattle.reductions.proofs.fills.take_each.Goals as goal
+use Rattle.reductions.proofs.fast.take_each.Goals as goal
 
 pub loop-j-init : goal.loop-j-init
 loop-j-init g c = record { len = refl; done = λ j d low. absurd (omega (arith, low)); later = λ j d low high. refl }

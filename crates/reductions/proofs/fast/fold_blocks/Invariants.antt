@@ -1,7 +1,7 @@
 use Rattle.std.proofs.Common.{◌-◌, ◌≤◌}
 use Rattle.reductions.proofs.Words.{numbers_at, TakesIn, run_offsets}
 use Rattle.reductions.proofs.LineLaws.{front}
-use Rattle.reductions.proofs.lines.fold_blocks.Given as goal
+use Rattle.reductions.proofs.fast.fold_blocks.Given as goal
 
 -- the first numbers are visited
 abbrev pub invariant-loop-done : goal.invariant-loop-done

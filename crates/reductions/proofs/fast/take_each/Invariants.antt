@@ -1,6 +1,6 @@
 use Rattle.std.proofs.Common.{◌≡◌, ◌≤◌, [], ◌∷◌, length}
 use Rattle.reductions.proofs.Words.{number_of_side, EachPair, TakesIn}
-use Rattle.reductions.proofs.fills.take_each.Given as goal
+use Rattle.reductions.proofs.fast.take_each.Given as goal
 
 -- the first lines have visited their number, and the later ones are unchanged
 abbrev pub invariant-loop-j : goal.invariant-loop-j

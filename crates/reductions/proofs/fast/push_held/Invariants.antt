@@ -1,6 +1,6 @@
 use Rattle.reductions.proofs.Words.{run_offsets, lines, AddsReduced}
 use Rattle.reductions.proofs.LineLaws.{front}
-use Rattle.reductions.proofs.fills.push_held.Given as goal
+use Rattle.reductions.proofs.fast.push_held.Given as goal
 
 -- the results of the first lines are appended
 abbrev pub invariant-loop-j : goal.invariant-loop-j

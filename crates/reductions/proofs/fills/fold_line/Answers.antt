@@ -1,7 +1,7 @@
 use Rattle.std.proofs.Common.{◌≡◌, ℤ, List, [], ◌∷◌, refl, sym, ap, subst, ◌∙◌}
 use Rattle.reductions.proofs.Words.{numbers_of}
 use Rattle.reductions.proofs.LineLaws.{side_first, side_rest}
-use Rattle.reductions.proofs.lines.fold_line.Goals as goal
+use Rattle.reductions.proofs.fills.fold_line.Goals as goal
 
 pub returns : goal.returns
 returns g c =

@@ -1,6 +1,6 @@
 use Rattle.std.proofs.Common.{◌≡◌, ◌≤◌, [], length, vec_capacity}
 use Rattle.reductions.proofs.Words.{number_of_side, EachOf}
-use Rattle.reductions.proofs.fills.begin.Given as goal
+use Rattle.reductions.proofs.fast.begin.Given as goal
 
 -- the first lines have a state
 abbrev pub invariant-loop-j : goal.invariant-loop-j

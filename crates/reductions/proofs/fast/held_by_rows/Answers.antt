@@ -2,7 +2,7 @@ use Rattle.std.proofs.Common.{◌+◌, ◌<◌, [], ◌∷◌, ◌++◌, length,
 use Rattle.reductions.proofs.Words.{take-append_seam, place, line_first, line_front, line_run, number_at}
 use Rattle.reductions.proofs.LineLaws.{front, numbers-more, length-numbers, at_first}
 use Rattle.reductions.proofs.RowLaws.{row_number}
-use Rattle.reductions.proofs.fills.held_by_rows.Goals as goal
+use Rattle.reductions.proofs.fast.held_by_rows.Goals as goal
 
 pub loop-k-init : goal.loop-k-init
 loop-k-init g c =

@@ -1,7 +1,7 @@
 use Rattle.std.proofs.Common.{◌≡◌, ◌+◌, ◌-◌, ◌++◌, map, pos, ◌+ℤ◌, ◌*ℤ◌, sym, ap, subst, ◌∙◌, arith, append_assoc, length-append}
 use Rattle.reductions.proofs.Words.{numbers_from, natural, run_offsets, numbers_at, numbers_of}
 use Rattle.reductions.proofs.LineLaws.{front, length-numbers, numbers-cut, part_numbers}
-use Rattle.reductions.proofs.lines.fold_blocks.Goals as goal
+use Rattle.reductions.proofs.fast.fold_blocks.Goals as goal
 
 pub loop-done-preserved : goal.loop-done-preserved
 loop-done-preserved g c =

@@ -1,5 +1,5 @@
 use Rattle.reductions.specs.inside.Lines.{AreHeld}
-use Rattle.reductions.proofs.fills.held_by_rows.Given as goal
+use Rattle.reductions.proofs.fast.held_by_rows.Given as goal
 
 -- the first rows are visited
 abbrev pub invariant-loop-k : goal.invariant-loop-k
