@@ -83,15 +83,17 @@ pub(crate) fn search(
         return search(rest, beyond, low, high, steps);
     }
     let least = low.saturating_sub(beyond).div_ceil(first.step);
-    let turn = turn_at(*first, rest);
     for k in least..first.len {
         let taken = first.step * k;
         if taken > high {
             return Some(false);
         }
         let left = high - taken;
-        if k >= turn.steps && left < turn.far {
-            return Some(false);
+        if k > 0 {
+            let turn = turn_at(*first, rest);
+            if k >= turn.steps && left < turn.far {
+                return Some(false);
+            }
         }
         *steps = steps.checked_sub(1)?;
         if search(rest, beyond, low.saturating_sub(taken), left, steps)? {
