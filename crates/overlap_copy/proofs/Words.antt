@@ -33,4 +33,4 @@ pub use Rattle.std.specs.Int.{IsGcd, div_ceil}
 pub use Rattle.std.specs.Option.{IsSome}
 pub use lib.IntN.{+ℤ_idl}
 unfoldable pub use lib.IntN.{one}
-pub use mir.Val.{SFits}
+pub use mir.Val.{SFits, of_z, to_z}

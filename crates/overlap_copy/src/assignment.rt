@@ -4,7 +4,7 @@ ghost use Rattle.overlap_copy.specs.Clauses.{AreApart, ArePaired, AreReversed, A
 
 use crate::apart::may_overlap;
 use crate::fast::orders::{as_runs, in_any_order};
-use crate::pair_copies::{have_same_step, is_same_line, move_apart, move_run, turn_run, turned};
+use crate::pair_copies::{is_same_line, move_apart, move_run, turn_run, turned};
 use arrays::{copy_run, gather, scatter};
 use raw_block::RawBlock;
 use shape_strides::{Layout, RunPairs};
@@ -55,7 +55,7 @@ fn assign_runs(block: &mut RawBlock, dst: &Layout, src: &Layout, width: usize) -
     let Some(from) = src.as_run() else {
         return false;
     };
-    if have_same_step(to, from) {
+    if to.step == from.step {
         move_run(block, to, from, width);
         return true;
     }

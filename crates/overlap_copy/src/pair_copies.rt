@@ -54,18 +54,11 @@ pub(crate) fn turned(run: Run) -> Run
     }
 }
 
-/// Whether two runs have the same step.
-pub(crate) fn have_same_step(run: Run, other: Run) -> bool
-    ensures { IsTrue result ↔ run.step ≡ other.step }
-{
-    run.step == other.step
-}
-
 /// Whether two runs have the same first item and the same step.
 pub(crate) fn is_same_line(run: Run, other: Run) -> bool
     ensures { IsTrue result ↔ (run.offset ≡ other.offset) × (run.step ≡ other.step) }
 {
-    have_same_step(run, other) && run.offset == other.offset
+    run.step == other.step && run.offset == other.offset
 }
 
 /// Moves the items of a run whose step is not negative to another run with the same step, from the
