@@ -5,8 +5,6 @@ pub mod AssignLaws
 pub mod AxesLaws
 pub mod ComeLaws
 pub mod CopyLaws
-pub mod DivisorLaws
-pub mod JoinLaws
 pub mod LineLaws
 pub mod MarkLaws
 pub mod MoveLaws
@@ -18,7 +16,6 @@ pub mod RunCopyLaws
 pub mod SearchLaws
 pub mod ShareLaws
 pub mod ShiftLaws
-pub mod StepLaws
 pub mod StepsBackLaws
 pub mod SwapLaws
 pub mod TradeLaws

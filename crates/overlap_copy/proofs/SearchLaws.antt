@@ -1,6 +1,6 @@
 -- Laws of sums along axes, and of the search for a sum within bounds.
-use Rattle.std.proofs.Common.{◌≡◌, ℕ, ◌+◌, ◌-◌, ◌*◌, ◌<◌, ◌≤◌, inl, inr, List, [], ◌∷◌, length, get_or, take, drop, All, sym, subst, ap, refl, arith, mul-suc, mul-le-mul_left, mul_comm}
-use Rattle.overlap_copy.proofs.Words.{div_ceil, cases_lt, div_ceil_times, take_all, recursion_from_All, All-from_recursion, IsIndex, Axis, reach, lengths_in, reached, reach_of, AreForward, HasSum}
+use Rattle.std.proofs.Common.{◌≡◌, ℕ, ◌+◌, ◌-◌, ◌*◌, ◌<◌, ◌≤◌, inl, inr, List, [], ◌∷◌, length, get_or, take, drop, sum_by, All, ◌↔◌, sym, subst, ap, refl, ◌∙◌, arith, mul-suc, mul-zero, zero-mul, mul-le-mul_left, mul_comm}
+use Rattle.overlap_copy.proofs.Words.{IsPermutation, All-permutation, reordered, sum_by-cons, sum_by-IsPermutation, div_ceil, cases_lt, div_ceil_times, take_all, recursion_from_All, All-from_recursion, IsIndex, Axis, reach, lengths_in, reached, reach_of, AreForward, HasSum}
 
 -- ---- the first axis and the rest
 
@@ -39,6 +39,16 @@ first_of a axes low high s = at s.index s.inside s.from s.to
       within = omega (arith, to);
       others = record { index = index; inside = inside.1; from = omega (arith, from); to = omega (arith, to) };
     }
+
+-- an axis with step 0 adds nothing
+pub still : (a : Axis) (axes : List Axis) (low high : ℕ) → a.step ≡ 0 → 0 < a.len → HasSum axes low high ↔ HasSum (a ∷ axes) low high
+still a axes low high none some = (
+  λ s. record { index = 0 ∷ s.index; inside = (some, s.inside); from = omega (arith, s.from, mul-zero a.step); to = omega (arith, s.to, mul-zero a.step) },
+  λ s.
+      let first = first_of a axes low high s in
+      let nothing : a.step * first.k ≡ 0 = ap (λ z. z * first.k) none ∙ zero-mul first.k in
+      record { index = first.others.index; inside = first.others.inside; from = omega (arith, first.others.from, nothing); to = omega (arith, first.others.to, nothing) },
+)
 
 -- no sum exceeds the reach
 pub most_sum : (axes : List Axis) (index : List ℕ) → IsIndex (lengths_in axes) index → reached axes index ≤ reach_of axes
@@ -87,14 +97,6 @@ none_left a axes low high k before beyond s =
 pub none_beyond : (a : Axis) (axes : List Axis) (low high k : ℕ) → NoneBelow a axes low high k → high < a.step * k → HasSum (a ∷ axes) low high → ⊥
 none_beyond a axes low high k before above = none_left a axes low high k before (λ j below from. omega (arith, mul-le-mul_left a.step from, above))
 
--- without axes, the only sum is 0
-pub no_axes : (low high : ℕ) → HasSum [] low high → low ≡ 0
-no_axes low high s = at s.index s.inside s.from
-  where
-    at : (index : List ℕ) → IsIndex (lengths_in []) index → low ≤ reached [] index → low ≡ 0
-    at [] inside from = omega (arith, from)
-    at (k ∷ index) inside from = absurd inside
-
 -- ---- what is known of all axes also holds for the rest
 
 pub reach_rest : (axes : List Axis) (whole : ℕ) → 1 ≤ length axes → whole ≡ reach_of axes → whole - reach (get_or axes 0 no_axis) ≡ reach_of (take (length axes - 1) (drop 1 axes))
@@ -105,7 +107,23 @@ all_rest P axes some all = All-from_recursion P (take (length axes - 1) (drop 1 
 
 pub forward_rest : (axes : List Axis) → 1 ≤ length axes → AreForward axes → AreForward (take (length axes - 1) (drop 1 axes))
 forward_rest axes some are = record {
-  steps = all_rest (λ a. 0 < a.step) axes some are.steps;
   items = all_rest (λ a. 0 < a.len) axes some are.items;
   near = omega (arith, are.near, reach_rest axes (reach_of axes) some refl);
+}
+
+-- ---- axes in another order
+
+pub sum-reordered : (axes order : List Axis) → IsPermutation axes order → (low high : ℕ) → HasSum axes low high → HasSum order low high
+sum-reordered axes order same low high s =
+    let found = reordered axes order s.index same s.inside in
+    record { index = found.0; inside = found.1; from = omega (arith, s.from, found.2); to = omega (arith, s.to, found.2) }
+
+reach-sum : (axes : List Axis) → reach_of axes ≡ sum_by reach axes
+reach-sum [] = refl
+reach-sum (a ∷ axes) = omega (arith, reach-sum axes, sum_by-cons reach a axes)
+
+pub forward-reordered : (axes order : List Axis) → IsPermutation axes order → AreForward axes → AreForward order
+forward-reordered axes order same are = record {
+  items = All-permutation (λ a. 0 < a.len) axes order same are.items;
+  near = omega (arith, are.near, reach-sum axes, reach-sum order, sum_by-IsPermutation reach axes order same);
 }

@@ -1,5 +1,5 @@
 -- Laws of steps along an axis that can be taken back.
-use Rattle.std.proofs.Common.{◌≡◌, ℕ, zero, suc, ◌+◌, ◌-◌, ◌*◌, ◌/◌, ◌<◌, ◌≤◌, inl, inr, List, ◌∷◌, length, get_or, take, drop, sym, subst, ap, ◌∙◌, arith, mul_assoc, mul_comm, mul-zero, mul-add, mul-le-mul_left}
+use Rattle.std.proofs.Common.{◌≡◌, ℕ, zero, suc, ◌+◌, ◌-◌, ◌*◌, ◌/◌, ◌<◌, ◌≤◌, inl, inr, List, ◌∷◌, length, get_or, take, drop, sym, subst, ap, ◌∙◌, arith, mul_assoc, mul_comm, mul-zero, mul-add, mul-le-mul_left, zero-mul}
 use Rattle.overlap_copy.proofs.Words.{IsGcd, ◌∣◌, cases_lt, Axis, times_of, reach_of, max_reach, AreForward, HasSum, IsTurn}
 use Rattle.overlap_copy.proofs.SearchLaws.{no_axis, first_rest, with_first, first_of, NoneBelow}
 
@@ -34,6 +34,10 @@ turned_back a b axes q p low high j same most within left s =
     high-same : (c d j q y p high : ℕ) → c * (j - q) + d * p ≡ c * j → d * (y + p) ≡ d * y + d * p → high - c * j - d * y ≡ high - c * (j - q) - d * (y + p)
     high-same c d j q y p high less more = omega (arith, less, more)
 
+pub divisor_some : (g n : ℕ) → 0 < n → g ∣ n → 0 < g
+divisor_some zero n some divides = absurd (omega (arith, some, times_of 0 n divides, zero-mul (n / 0)))
+divisor_some (suc g) n some divides = omega arith
+
 quotient_some : (g n : ℕ) → 0 < n → g ∣ n → 0 < n / g
 quotient_some g n some divides = elim (cases_lt 0 (n / g)) [
   | inl above ↦ above
@@ -43,11 +47,11 @@ quotient_some g n some divides = elim (cases_lt 0 (n / g)) [
 ]
 
 -- steps can be taken back with the first of the other axes
-pub turn_next : (a : Axis) (others : List Axis) (g far : ℕ) → 1 ≤ length others → AreForward others → IsGcd a.step (get_or others 0 no_axis).step g → far ≡ (get_or others 0 no_axis).step * ((get_or others 0 no_axis).len - a.step / g) → IsTurn a others ((get_or others 0 no_axis).step / g) far
-turn_next a others g far long are gcd is =
+pub turn_next : (a : Axis) (others : List Axis) (g far : ℕ) → 1 ≤ length others → 0 < (get_or others 0 no_axis).step → IsGcd a.step (get_or others 0 no_axis).step g → far ≡ (get_or others 0 no_axis).step * ((get_or others 0 no_axis).len - a.step / g) → IsTurn a others ((get_or others 0 no_axis).step / g) far
+turn_next a others g far long some gcd is =
     let b = get_or others 0 no_axis in
     subst (λ l. IsTurn a l (b.step / g) far) (sym (first_rest others long)) (record {
-      some = quotient_some g b.step (are.steps 0 no_axis long) gcd.1;
+      some = quotient_some g b.step some gcd.1;
       back = λ low high j most within left s.
           turned_back a b (take (length others - 1) (drop 1 others)) (b.step / g) (a.step / g) low high j (even a.step b.step g gcd.0 gcd.1) most within (omega (arith, left, is)) s;
     })

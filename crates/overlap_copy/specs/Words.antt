@@ -2,8 +2,8 @@
 pub use Rattle.arrays.specs.Assignments.{assigned, items_at, with_items}
 pub use Rattle.arrays.specs.Joined.{joined_at}
 pub use Rattle.arrays.specs.JoinedLaws.{joined-items, length-joined_at}
-pub use Rattle.arrays.specs.PairLaws.{All-firsts, All-seconds, even, firsts-reordered, flipped-reordered, pair_even, seconds-reordered}
-pub use Rattle.arrays.specs.RunLaws.{All-back, All-front, BeginsWithin, assigned-append, lie-within, next_pair, place-at, run-ends, run-within, run_offsets-more, runs-within, walked-within}
+pub use Rattle.arrays.specs.PairLaws.{All-firsts, All-seconds, firsts-reordered, flipped-reordered, pair_even, seconds-reordered}
+pub use Rattle.arrays.specs.RunLaws.{All-back, All-front, BeginsWithin, assigned-append, lie-within, next_pair, place-at, run-ends, run-within, run_offsets-more, runs-within}
 pub use Rattle.elem_descr.specs.ListLaws.{same_test}
 pub use Rattle.elem_descr.specs.StepLaws.{numbers-split}
 pub use Rattle.elem_descr.specs.Steps.{numbers_from}

@@ -1,4 +1,3 @@
-pub mod Joins
 pub mod Marks
 pub mod Moves
 pub mod Overwrites

@@ -1,9 +1,22 @@
 //! Decides by byte ranges and strides whether two layouts in one block are disjoint.
-ghost use Rattle.std.specs.Prelude.{IsTrue, false, if◌then◌else◌, length, nat_le, pos, slice_index_or, unsigned_abs, ◌%◌, ◌+◌, ◌<◌, ◌↔◌, ◌∷◌, ◌≡◌, ◌≤◌};
-ghost use Rattle.overlap_copy.specs.Clauses.{AreApart, IsGreatestDivisor, LieBetween, steps, do_ranges_meet, have_common_byte, Fits, max_bytes, offsets};
+ghost use Rattle.std.specs.Prelude.{IsTrue, false, if◌then◌else◌, length, nat_le, pos, slice_index_or, unsigned_abs, ◌%◌, ◌+◌, ◌<◌, ◌↔◌, ◌∷◌, ◌≡◌};
+ghost use Rattle.overlap_copy.specs.Clauses.{AreApart, IsGcd, IsGreatestDivisor, LieBetween, steps, do_ranges_meet, have_common_byte, Fits, max_bytes, offsets};
 
-use crate::axis_sums::common_divisor;
 use shape_strides::Layout;
+
+/// The greatest common divisor, by Euclid's steps.
+pub(crate) fn common_divisor(a: usize, b: usize) -> usize
+    ensures { IsGcd a b result }
+{
+    let mut divisor = a;
+    let mut rest = b;
+    while rest > 0 {
+        let next = divisor % rest;
+        divisor = rest;
+        rest = next;
+    }
+    divisor
+}
 
 /// How many bytes an axis steps over in either direction, or 0 if it has fewer than two items.
 fn step_along(strides: &[isize], axis: usize, len: usize) -> usize

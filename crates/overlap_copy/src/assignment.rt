@@ -1,14 +1,13 @@
 //! Assignment: copies the items of one layout to another.
-ghost use Rattle.std.specs.Prelude.{◌≡◌, length, false, IfOk, IfErr, IfSome, IsOk, IsTrue};
-ghost use Rattle.overlap_copy.specs.Clauses.{AreApart, ArePaired, AreReversed, AreRuns, Assigns, CanMove, Fits, IsNested, IsPermutation, assigned, item_pairs, max_bytes, offsets};
+ghost use Rattle.std.specs.Prelude.{◌≡◌, length, false, IfOk, IfErr, IsOk, IsTrue};
+ghost use Rattle.overlap_copy.specs.Clauses.{AreApart, ArePaired, AreReversed, AreRuns, Assigns, CanMove, Fits, assigned, max_bytes, offsets};
 
 use crate::apart::may_overlap;
-use crate::pair_copies::{
-    as_runs, have_same_step, is_same_line, move_apart, move_run, turn_run, turned,
-};
+use crate::fast::orders::{as_runs, in_any_order};
+use crate::pair_copies::{is_same_line, move_apart, move_run, turn_run, turned};
 use arrays::{copy_run, gather, scatter};
 use raw_block::RawBlock;
-use shape_strides::{Layout, LayoutPair, RunPairs, in_memory_order};
+use shape_strides::{Layout, RunPairs};
 use std::alloc::{AllocError, Global};
 
 /// Copies the items, of `width` bytes, of the layout `src` in `other` to those of the layout `dst`,
@@ -24,20 +23,6 @@ fn assign_in_order(block: &mut RawBlock, dst: &Layout, other: &RawBlock, src: &L
     for pair in RunPairs::new(dst, src) {
         copy_run(block, pair.first, other, pair.second, width);
     }
-}
-
-/// Two layouts in the order of the target in memory, if that is not C order and the items of the
-/// target do not overlap, so that the order does not matter.
-pub fn in_any_order(alloc: Global, dst: &Layout, src: &Layout, width: usize) -> Option<LayoutPair>
-    ensures pairs { IfSome result
-        (λ pair. IsPermutation (item_pairs dst.now src.now) (item_pairs pair.target pair.source)) }
-    ensures nested { IfSome result (λ _. IsNested (offsets dst.now) width) }
-{
-    let pair = in_memory_order(alloc, dst, src)?;
-    if width == 0 || !dst.is_stacked(width) {
-        return None;
-    }
-    Some(pair)
 }
 
 /// Copies the items, of `width` bytes, of the layout `src` in `other` to those of the layout `dst`,
@@ -70,7 +55,7 @@ fn assign_runs(block: &mut RawBlock, dst: &Layout, src: &Layout, width: usize) -
     let Some(from) = src.as_run() else {
         return false;
     };
-    if have_same_step(to, from) {
+    if to.step == from.step {
         move_run(block, to, from, width);
         return true;
     }

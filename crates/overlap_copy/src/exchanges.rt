@@ -2,7 +2,7 @@
 ghost use Rattle.std.specs.Prelude.{◌≡◌, length};
 ghost use Rattle.overlap_copy.specs.Clauses.{ArePaired, Assigns, IsNested, RunsLie, Trades, items_at, offsets, run_offsets};
 
-use crate::pair_copies::as_runs;
+use crate::fast::orders::as_runs;
 use arrays::strided;
 use raw_block::RawBlock;
 use shape_strides::{Layout, Run, RunPairs, in_memory_order};

@@ -1,22 +1,10 @@
 //! Pairs of runs: copies or moves the items of the second run to the first.
-ghost use Rattle.std.specs.Prelude.{IfSome, IsTrue, length, neg_ℤ, pos, ◌*ℤ◌, ◌*◌, ◌+ℤ◌, ◌↔◌, ◌≡◌, ◌≤ℤ◌, ◌≤◌};
-ghost use Rattle.overlap_copy.specs.Clauses.{AreAlike, Assigns, BeginsWithin, CanMoveRun, IsAssigned, IsLine, IsNested, IsTurned, LieApart, RunLies, RunsLie, copied_within, max_bytes, offsets, place_in, run_offsets};
+ghost use Rattle.std.specs.Prelude.{IsTrue, length, neg_ℤ, pos, ◌*◌, ◌+ℤ◌, ◌↔◌, ◌≡◌, ◌≤ℤ◌, ◌≤◌};
+ghost use Rattle.overlap_copy.specs.Clauses.{AreAlike, Assigns, CanMoveRun, IsAssigned, IsLine, IsNested, IsTurned, LieApart, RunLies, RunsLie, copied_within, max_bytes, place_in, run_offsets};
 
 use arrays::strided;
 use raw_block::RawBlock;
-use shape_strides::{Layout, Run, RunPair};
-
-/// The two layouts as runs, if each of them is a single run.
-pub(crate) fn as_runs(first: &Layout, second: &Layout) -> Option<RunPair>
-    ensures first { IfSome result (λ pair. run_offsets pair.first ≡ offsets first.now) }
-    ensures second { IfSome result (λ pair. run_offsets pair.second ≡ offsets second.now) }
-    ensures first_lies { IfSome result (λ pair. BeginsWithin pair.first) }
-    ensures second_lies { IfSome result (λ pair. BeginsWithin pair.second) }
-{
-    let first = first.as_one_run()?;
-    let second = second.as_one_run()?;
-    Some(RunPair { first, second })
-}
+use shape_strides::Run;
 
 /// Copies the items, of `width` bytes, of a run to another run of the same block that has as many,
 /// one after the other. Where the two overlap, an item is read as earlier copies left it.
@@ -66,18 +54,11 @@ pub(crate) fn turned(run: Run) -> Run
     }
 }
 
-/// Whether two runs have the same step.
-pub(crate) fn have_same_step(run: Run, other: Run) -> bool
-    ensures { IsTrue result ↔ run.step ≡ other.step }
-{
-    run.step == other.step
-}
-
 /// Whether two runs have the same first item and the same step.
 pub(crate) fn is_same_line(run: Run, other: Run) -> bool
     ensures { IsTrue result ↔ (run.offset ≡ other.offset) × (run.step ≡ other.step) }
 {
-    have_same_step(run, other) && run.offset == other.offset
+    run.step == other.step && run.offset == other.offset
 }
 
 /// Moves the items of a run whose step is not negative to another run with the same step, from the

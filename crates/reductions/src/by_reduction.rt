@@ -1,7 +1,7 @@
 //! What differs from reduction to reduction: the type of its result, whether it needs items, its
 //! result without items, and the loop that computes it.
 ghost use Rattle.std.specs.Prelude.{IfOk, [], length, true, ℕ, ◌*◌, ◌<◌, ◌≡◌, ◌≤◌};
-ghost use Rattle.reductions.specs.Clauses.{needs_items, result_scalar, wide, Little, Scalar, item_at, max_items, size, AreReduced, HaveItems, IsReduced, IsStored, lists_from, depends_on_order};
+ghost use Rattle.reductions.specs.Clauses.{needs_items, result_scalar, Little, Scalar, item_at, max_items, size, AreReduced, HaveItems, IsReduced, IsStored, lists_from, depends_on_order};
 
 use crate::fills::reduced;
 use crate::folds::{Best, PlaceOf, Truth, Wrapping};

@@ -1,14 +1,26 @@
-//! Reduces all numbers of a layout, or the lines along an axis that start at each of them: one line
-//! after another, or all lines at once, row by row.
-ghost use Rattle.std.specs.Prelude.{◌≡◌, ◌+◌, ◌*◌, ◌<◌, ◌≤◌, [], ◌∷◌, length, IfOk, Some};
-ghost use Rattle.reductions.specs.Clauses.{Little, number_of_side, count, offsets, run_offsets, numbers_at, size, lines, lists_from, HaveTakenRow, IsPushed, AreReduced, AddsReduced, HaveItems, all_lines, line_run, AreHeld, EachOf};
+//! Reduces all numbers of a layout, or the lines along an axis that start at each of them, one line
+//! after another.
+ghost use Rattle.std.specs.Prelude.{◌≡◌, ◌*◌, ◌<◌, ◌≤◌, IfOk, Some};
+ghost use Rattle.reductions.specs.Clauses.{count, offsets, numbers_at, size, lines, lists_from, AreReduced, AddsReduced, HaveItems, all_lines};
+ghost use Rattle.reductions.specs.inside.Numbers.{numbers_of};
 
+use crate::fast::{fold_run, goes_by_rows, push_by_rows};
 use crate::folds::Fold;
-use crate::lines::{Lines, Numbers, fold_line, fold_run};
-use machine_numbers::{LowFirst, Number, Ordered, Side};
+use crate::lines::{Lines, Numbers, push_total};
+use machine_numbers::{Number, Ordered, Side};
 use raw_block::{BlockBuilder, RawBlock};
 use shape_strides::{Runs, StridedAxis};
 use std::alloc::{AllocError, Global};
+
+/// The result for some numbers.
+pub(crate) fn fold_line<S: Number, O: Ordered, F: Fold<S>>(line: Side<'_>) -> F::Total
+    requires width { line.width ≡ S.WIDTH }
+    requires some { 1 ≤ line.run.count }
+    ensures { F.Total.value result ≡ F.meaning (numbers_of (S.scalar O.order) line.entry) }
+{
+    let first = line.number::<S, O>(0);
+    F::finish(fold_run::<S, O, F>(F::start(first), 0, line))
+}
 
 /// The result for all numbers of a layout.
 fn fold_all<S: Number, O: Ordered, F: Fold<S>>(numbers: Numbers<'_>) -> F::Total
@@ -35,95 +47,6 @@ fn fold_all<S: Number, O: Ordered, F: Fold<S>>(numbers: Numbers<'_>) -> F::Total
     F::finish(held)
 }
 
-/// The state of each line before its first number.
-fn begin<S: Number, O: Ordered, F: Fold<S>>(
-    alloc: Global,
-    firsts: Side<'_>,
-) -> Result<Vec<F::Held>, AllocError>
-    requires { firsts.width ≡ S.WIDTH }
-    ensures len { IfOk result (λ v. length v.items ≡ firsts.entry.run.count) }
-    ensures held { IfOk result
-        (λ v. EachOf firsts.entry.run.count v.items
-        (λ j one. F.holds one (number_of_side (S.scalar O.order) firsts.entry j) [])) }
-{
-    let mut held = Vec::with_capacity(alloc, firsts.run.count)?;
-    for j in 0..firsts.run.count {
-        held.push_reserved(F::start(firsts.number::<S, O>(j)));
-    }
-    Ok(held)
-}
-
-/// Adds each number of a row to the state of its line, on which `seen` numbers come before it.
-#[inline(always)]
-fn take_each<S: Number, O: Ordered, F: Fold<S>>(held: &mut [F::Held], row: Side<'_>, seen: usize)
-    requires width { row.width ≡ S.WIDTH }
-    requires even { length held.old ≡ row.run.count }
-    ensures { HaveTakenRow F.holds (S.scalar O.order) row.entry seen held.old held.new }
-{
-    for j in 0..row.run.count {
-        held[j] = F::step(held[j], row.number::<S, O>(j), seen);
-    }
-}
-
-/// Adds each number of a row to the state of its line, with a loop of its own for adjacent numbers.
-fn take_row<S: Number, O: Ordered, F: Fold<S>>(held: &mut [F::Held], row: Side<'_>, seen: usize)
-    requires width { row.width ≡ S.WIDTH }
-    requires even { length held.old ≡ row.run.count }
-    ensures { HaveTakenRow F.holds (S.scalar O.order) row.entry seen held.old held.new }
-{
-    if row.run.step == S::WIDTH as isize {
-        return take_each::<S, O, F>(held, row.with_step(S::WIDTH as isize), seen);
-    }
-    take_each::<S, O, F>(held, row, seen);
-}
-
-/// The final state of each line. All lines are reduced at once, row by row.
-fn held_by_rows<S: Number, O: Ordered, F: Fold<S>>(
-    alloc: Global,
-    lines: Lines<'_>,
-) -> Result<Vec<F::Held>, AllocError>
-    requires width { lines.starts.width ≡ S.WIDTH }
-    requires some { 1 ≤ lines.axis.len }
-    requires starts { 1 ≤ lines.starts.run.count }
-    ensures { IfOk result
-        (λ v. AreHeld F.holds (S.scalar O.order) lines.entry lines.entry.axis.len v.items) }
-{
-    let mut held = begin::<S, O, F>(alloc, lines.row(0))?;
-    for k in 0..lines.axis.len {
-        take_row::<S, O, F>(&mut held, lines.row(k), k);
-    }
-    Ok(held)
-}
-
-/// Appends a number, lowest byte first.
-#[inline(always)]
-fn push_total<T: Number>(block: &mut BlockBuilder, total: T)
-    requires { T.WIDTH ≤ block.old.1 }
-    ensures { IsPushed (T.scalar Little) T.WIDTH (T.value total) block.old block.new }
-{
-    total.push::<LowFirst>(block);
-}
-
-/// Appends the result of each line, given its final state. The block is passed in and returned, so
-/// that its length stays in a register.
-fn push_held<S: Number, O: Ordered, F: Fold<S>>(
-    block: BlockBuilder,
-    held: &[F::Held],
-    lines: Lines<'_>,
-) -> BlockBuilder
-    requires some { 1 ≤ lines.axis.len }
-    requires held { AreHeld F.holds (S.scalar O.order) lines lines.axis.len held.now }
-    requires room { lines.starts.run.count * F.Total.WIDTH ≤ block.1 }
-    ensures { AddsReduced F.reduction (S.scalar O.order) lines.entry.starts.bytes.now F.Total.WIDTH
-        (all_lines lines.entry) block result }
-{
-    let mut block = block;
-    for j in 0..lines.starts.run.count {
-        push_total(&mut block, F::finish(held[j]));
-    }
-    block
-}
-
 /// Appends the result of each line.
 fn push_lines<S: Number, O: Ordered, F: Fold<S>>(
     alloc: Global,
@@ -137,9 +60,8 @@ fn push_lines<S: Number, O: Ordered, F: Fold<S>>(
         (AddsReduced F.reduction (S.scalar O.order) lines.entry.starts.bytes.now F.Total.WIDTH
         (all_lines lines.entry) block) }
 {
-    if lines.goes_by_rows() {
-        let held = held_by_rows::<S, O, F>(alloc, lines)?;
-        return Ok(push_held::<S, O, F>(block, held.as_slice(), lines));
+    if goes_by_rows(lines) {
+        return push_by_rows::<S, O, F>(alloc, block, lines);
     }
     let mut block = block;
     for j in 0..lines.starts.run.count {

@@ -3,6 +3,7 @@
 #![tactic(auto)]
 
 mod by_reduction;
+mod fast;
 mod fills;
 mod folds;
 mod lines;

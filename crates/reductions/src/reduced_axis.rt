@@ -1,6 +1,6 @@
 //! The axis of a reduction, the shape of its result, where its lists begin, and what is refused.
-ghost use Rattle.std.specs.Prelude.{Err, IfErr, IfOk, Ok, false, length, not, slice_index, true, ◌&&◌, ◌<◌, ◌==◌, ◌≡◌, ◌≤◌};
-ghost use Rattle.reductions.specs.Clauses.{ScalarDescr, IsAxisOf, is_axis, list_length, named_axis, reduced_shape, has_empty_list, number_scalar, needs_items, BadAxis, Gives, IsNumber, count, AreStarts, shape_after, remove};
+ghost use Rattle.std.specs.Prelude.{Err, IfErr, IfOk, Ok, false, length, slice_index, true, ◌&&◌, ◌<◌, ◌==◌, ◌≡◌, ◌≤◌};
+ghost use Rattle.reductions.specs.Clauses.{ScalarDescr, IsAxisOf, is_axis, list_length, named_axis, reduced_shape, has_empty_list, number_scalar, needs_items, BadAxis, Gives, IsNumber, AreStarts, shape_after, remove};
 
 use crate::by_reduction::needs_items;
 use elem_descr::{Descr, Red, Refusal, Scalar};

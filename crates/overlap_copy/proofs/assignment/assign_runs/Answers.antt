@@ -1,5 +1,5 @@
-use Rattle.std.proofs.Common.{◌≡◌, reverse, sym, ap, subst, ◌∙◌, arith}
-use Rattle.overlap_copy.proofs.Words.{both_ways, max_bytes, IsNested, RunsLie, run_offsets, assigned}
+use Rattle.std.proofs.Common.{rules, ◌≡◌, w64, reverse, sym, ap, subst, ◌∙◌, arith}
+use Rattle.overlap_copy.proofs.Words.{SFits, both_ways, of_z, to_z, to_z-of_z, max_bytes, IsNested, RunsLie, run_offsets, assigned}
 use Rattle.overlap_copy.proofs.LineLaws.{turned_line}
 use Rattle.overlap_copy.proofs.PairCopies.{move-paired, runs-lie}
 use Rattle.overlap_copy.proofs.assignment.assign_runs.Goals as goal
@@ -26,11 +26,13 @@ returns-in_default-as_run-clause-turned c = λ are. absurd (c.in_default-as_run.
 pub move_run-requires : goal.move_run-requires
 move_run-requires c =
     let to = c.in-Some.ensures in
+    let fits : SFits w64 c.in-Some.to.step = search rules in
+    let fits' : SFits w64 c.in-Some-as_run.from.step = search rules in
     record {
       lie = both-lie (goal.at.move_run-requires c).In-Some-as_run;
       some = omega (arith, to.two);
       few = to.few;
-      step = sym (c.have_same_step.ensures.0 c.if-have_same_step.true);
+      step = sym (to_z-of_z w64 c.in-Some-as_run.from.step fits') ∙ ap (to_z w64) (sym c.if-to-from.true) ∙ to_z-of_z w64 c.in-Some.to.step fits;
       to_limit = to.lie max_bytes 1 c.args.dst.now.within_limit;
       from_limit = c.in-Some-as_run.ensures.lie max_bytes 1 c.args.src.now.within_limit;
       nested = subst (λ os. IsNested os c.args.width) (sym to.items) c.requires.nested;
@@ -38,7 +40,7 @@ move_run-requires c =
 
 pub returns-then-not-is_same_line-clause-runs : goal.returns-then-not-is_same_line-clause-runs
 returns-then-not-is_same_line-clause-runs c = λ are.
-    absurd (both_ways c.have_same_step.result c.if-have_same_step.false (c.have_same_step.ensures.1 (c.in-Some.ensures.found are.step are.to_run.0 are.to_run.1 ∙ sym (c.in-Some-as_run.ensures.found are.step are.from_run.0 are.from_run.1))))
+    absurd (c.if-to-from.false (ap (of_z w64) (c.in-Some.ensures.found are.step are.to_run.0 are.to_run.1 ∙ sym (c.in-Some-as_run.ensures.found are.step are.from_run.0 are.from_run.1))))
 
 pub returns-then-not-is_same_line-clause-turned : goal.returns-then-not-is_same_line-clause-turned
 returns-then-not-is_same_line-clause-turned c = λ are.
