@@ -1,6 +1,6 @@
 -- What takes memory of its own.
-use Rattle.std.proofs.Common.{◌≡◌, ℕ, Bool, true, false, List, length, ◌==◌, not, Option, Some, None, refl, IsTrue, IfSome, nat_le, count_by, ◌||◌, ◌&&◌, is_some, if◌then◌else◌}
-use Rattle.script_lang.proofs.Words.{option_and_then, option_map, false≢true, is_ellipsis, Literal, Scalar, Bytes, OperandArgument, LiteralArgument, ReaderOf, one_part, only, byte_at, unspaced, bytes_mark_at, name_at, by_rule, none_or_more, one_or_more, byte_text_at, scalar_at, record_at, literal_at, index_item_at, index_at, optional_index_at, operand_named, operand_at, argument_at, scalar_room, literal_room, index_room, optional_index_room, operand_room, argument_room}
+use Rattle.std.proofs.Common.{◌≡◌, ℕ, Bool, true, false, List, length, ◌==◌, not, Option, Some, None, refl, IsTrue, IfSome, nat_le, count_by, ◌||◌, if◌then◌else◌}
+use Rattle.script_lang.proofs.Words.{option_and_then, option_map, false≢true, is_ellipsis, Literal, Scalar, Bytes, ReaderOf, one_part, only, byte_at, by_rule, none_or_more, one_or_more, byte_text_at, scalar_at, record_at, index_item_at, index_at, optional_index_at, operand_named, scalar_room, literal_room, index_room, optional_index_room, operand_room}
 
 -- If what follows a step has P for every result of the step, the whole has P.
 pub after_step : {A B : Type 0} (P : B → Type 0) (step : Option A) (next : A → Option B) → ((x : A) → IfSome (next x) P) → IfSome (option_and_then next step) P
@@ -61,12 +61,3 @@ optional_index_list_room bytes inside found known = rw found (part_room index_ro
 
 pub indexed_room : (name bytes : List ℕ) → IfSome (optional_index_at bytes) (Has optional_index_room) → IfSome (one_part (operand_named name) optional_index_at bytes) (Has operand_room)
 indexed_room name bytes known = part_room optional_index_room operand_room (operand_named name) optional_index_at bytes known (λ index more. more)
-
-pub operand_argument_room : (bytes : List ℕ) (name : List ℕ × List ℕ) → bytes_mark_at (unspaced bytes) ≡ None → name_at bytes ≡ Some name → IfSome (one_part (operand_named name.0) optional_index_at name.1) (Has operand_room) → IfSome (argument_at bytes) (Has argument_room)
-unfolding argument_at operand_at
-operand_argument_room bytes name unmarked named known =
-    rw (unmarked, named) (after_known (Has operand_room) (Has argument_room) (one_part (operand_named name.0) optional_index_at name.1) _ known (λ operand more. more))
-
-pub literal_argument_room : (bytes : List ℕ) → (not (is_some (bytes_mark_at (unspaced bytes))) && is_some (name_at bytes)) ≡ false → IfSome (literal_at bytes) (Has literal_room) → IfSome (argument_at bytes) (Has argument_room)
-unfolding argument_at
-literal_argument_room bytes other known = rw other (part_room literal_room argument_room LiteralArgument literal_at bytes known (λ literal more. more))

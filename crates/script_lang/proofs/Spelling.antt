@@ -1,6 +1,6 @@
 -- Bytes that are numbers.
 use Rattle.std.proofs.Common.{◌≡◌, ◌≤◌, ◌<◌, ◌^◌, ◌+◌, ℕ, suc, Bool, true, false, List, [], ◌∷◌, take, Some, refl, arith, cond, IfSome, length, drop, subst, length-drop}
-use Rattle.script_lang.proofs.Words.{record_mark_at, is_mark, pow-le-pow_right, list_all, prefix_len}
+use Rattle.script_lang.proofs.Words.{record_mark_at, is_blank, is_mark, unspaced, word_at, name_at, length_at, integer_at, literal_within, literal_at, pow-le-pow_right, list_all, prefix_len}
 use Rattle.script_lang.proofs.Shorter.{Few, two_within}
 
 -- A number with fewer digits is below the power of ten for more digits.
@@ -25,3 +25,26 @@ record_mark_shorter bytes inside found =
     let two = two_within (length bytes) 84 123 (drop (prefix_len is_mark bytes) bytes) (omega (arith, length-drop (prefix_len is_mark bytes) bytes)) in
     let less : length inside < length bytes = subst (λ o. IfSome o (Few (length bytes))) found two in
     omega arith
+
+unspaced_cons : (b : ℕ) (bytes : List ℕ) (t : Bool) → is_blank b ≡ t → unspaced (unspaced bytes) ≡ unspaced bytes → unspaced (drop (cond t (1 + prefix_len is_blank bytes) 0) (b ∷ bytes)) ≡ drop (cond t (1 + prefix_len is_blank bytes) 0) (b ∷ bytes)
+unspaced_cons b bytes false is rest = rw is refl
+unspaced_cons b bytes true is rest =
+    let next : 1 + prefix_len is_blank bytes ≡ suc (prefix_len is_blank bytes) = omega arith in
+    rw next rest
+
+-- No blanks follow the blanks at the front.
+pub unspaced_twice : (bytes : List ℕ) → unspaced (unspaced bytes) ≡ unspaced bytes
+unspaced_twice [] = refl
+unspaced_twice (b ∷ bytes) = unspaced_cons b bytes (is_blank b) refl (unspaced_twice bytes)
+
+pub integer_unspaced : (bytes : List ℕ) → integer_at (unspaced bytes) ≡ integer_at bytes
+unfolding integer_at length_at
+integer_unspaced bytes = rw (unspaced_twice bytes) refl
+
+pub name_unspaced : (bytes : List ℕ) → name_at (unspaced bytes) ≡ name_at bytes
+unfolding name_at word_at
+name_unspaced bytes = rw (unspaced_twice bytes) refl
+
+pub literal_unspaced : (bytes : List ℕ) → literal_at (unspaced bytes) ≡ literal_at bytes
+unfolding literal_at literal_within
+literal_unspaced bytes = rw (unspaced_twice bytes) refl

@@ -20,7 +20,7 @@ pub use Rattle.script_lang.specs.Readers.{ReaderOf, if_found, one_part, only, op
 unfoldable pub use Rattle.script_lang.specs.Tokens.{bytes_mark_at, integer_at, is_parted, keyword_at, length_at, name_at, number_at, word_at}
 pub use Rattle.script_lang.specs.Verbs.{operation_of, verbs}
 unfoldable pub use Rattle.script_lang.specs.Verbs.{beside, verb_of}
-pub use Rattle.script_lang.specs.Words.{Ellipsis, IndexItem, NewAxis, OutOfMemory, Refusal, Syntax, UnOp, bytes_eq, is_ascii_digit, is_ellipsis, list_all, option_and_then, option_map, prefix_len, value_of}
+pub use Rattle.script_lang.specs.Words.{Ellipsis, IndexItem, NewAxis, OutOfMemory, Refusal, Slice, Syntax, UnOp, bytes_eq, is_ascii_digit, is_ellipsis, list_all, option_and_then, option_map, prefix_len, value_of}
 pub use Rattle.script_lang.specs.declared.command.Command.{Command}
 pub use Rattle.script_lang.specs.declared.command.Operand.{Operand}
 pub use Rattle.script_lang.specs.declared.command.Operation.{Operation}

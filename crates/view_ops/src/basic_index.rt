@@ -2,9 +2,10 @@
 ghost use Rattle.std.specs.Prelude.{IfOk, count_by, drop, length, pos, slice_index_or, true, ◌+◌, ◌-◌, ◌<◌, ◌≡◌, ◌≤◌};
 ghost use Rattle.view_ops.specs.Clauses.{list_all, axes_taken, basic, has_step, takes_axis, width, GivesView, KeepsNested, Integer, is_basic};
 
-use crate::picks::{are_in_range, picks_of, taken, with_picks};
+use crate::picks::{are_in_range, set_picks, taken, with_picks};
 use elem_descr::{IndexItem, Refusal};
 use shape_strides::Layout;
+use smallvec::SmallVec;
 use std::alloc::Global;
 
 /// Whether no item is an index array.
@@ -53,6 +54,7 @@ pub fn basic<A>(alloc: Global, layout: &Layout, items: &[IndexItem<A>]) -> Resul
     if !are_in_range(lengths, items) {
         return Err(Refusal::IndexOutOfRange);
     }
-    let picks = picks_of(alloc, lengths, items)?;
+    let mut picks = SmallVec::new(alloc);
+    set_picks(&mut picks, lengths, items)?;
     with_picks(alloc, layout, picks.as_slice())
 }

@@ -134,28 +134,27 @@ fn push_picks<A>(
     }
 }
 
-/// What the items pick from the axes of a shape.
-pub(crate) fn picks_of<A>(
-    alloc: Global,
+/// Makes a list what the items pick from the axes of a shape.
+pub(crate) fn set_picks<A>(
+    made: &mut SmallVec<AxisPick, 4>,
     lengths: &[usize],
     items: &[IndexItem<A>],
-) -> Result<SmallVec<AxisPick, 4>, AllocError>
+) -> Result<(), AllocError>
     requires taken { axes_taken items.now ≤ length lengths.now }
     requires basic { list_all is_basic items.now ≡ true }
     requires steps { list_all has_step items.now ≡ true }
     requires in_range { are_on_axes lengths.now items.now ≡ true }
-    ensures are { IfOk result (λ v. ArePicks lengths.now v.items) }
-    ensures shown { IfOk result (λ v. map pick_shown v.items ≡ picks lengths.now items.now) }
+    ensures are { OnOk result (ArePicks lengths.now made.new.items) }
+    ensures shown { OnOk result (map pick_shown made.new.items ≡ picks lengths.now items.now) }
 {
-    let mut picks = SmallVec::new(alloc);
+    made.clear();
     let mut axis = 0;
     for k in 0..items.len() {
         let end = axes_end(lengths.len(), axis, items, k);
-        push_picks(&mut picks, &lengths[axis..end], &items[k])?;
+        push_picks(made, &lengths[axis..end], &items[k])?;
         axis = end;
     }
-    push_whole(&mut picks, &lengths[axis..])?;
-    Ok(picks)
+    push_whole(made, &lengths[axis..])
 }
 
 fn push_length(lengths: &mut SmallVec<usize, 4>, pick: AxisPick) -> Result<(), AllocError>

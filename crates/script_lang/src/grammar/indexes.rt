@@ -1,27 +1,23 @@
 //! Index lists, and operands with an index list.
-ghost use Rattle.std.specs.Prelude.{◌≤◌, length};
-ghost use Rattle.script_lang.specs.Clauses.{by_rule, one_or_more, one_part, slice_at, ellipsis_at, index_item_at, index_at, bracket_at, optional_index_at, operand_named, operand_at, argument_at, Scans, Takes, index_room, optional_index_room, operand_room, argument_room};
+ghost use Rattle.std.specs.Prelude.{Some, count_by, length, nat_le, ◌≡◌, ◌≤◌};
+ghost use Rattle.script_lang.specs.Clauses.{one_part, step_at, ellipsis_at, index_item_at, index_at, bracket_at, optional_index_at, operand_named, operand_at, argument_at, is_ellipsis, Scans, Takes, index_room, operand_room, argument_room};
 
 use crate::command::{Argument, Index, Operand};
 use crate::grammar::literals::literal;
 use crate::grammar::names::name;
-use crate::grammar::numbers::{integer, optional_integer};
+use crate::grammar::numbers::optional_integer;
 use crate::grammar::tokens::{byte, bytes_mark, keyword, symbol, unspaced};
 use elem_descr::{IndexItem, Name, Refusal};
 use std::alloc::Global;
 
-#[tactic(auto, unfolding(crate::specs::Indexes::slice_at))]
-fn slice(bytes: &[u8]) -> Option<(IndexItem<Name>, &[u8])>
-    ensures { Scans (λ r. (r.0, r.1.now)) result (slice_at bytes.now) }
+/// The step of a slice, if there is a second colon, and what follows it.
+fn step(bytes: &[u8]) -> (Option<i128>, &[u8])
+    ensures { Some (result.0, result.1.now) ≡ step_at bytes.now }
 {
-    let (start, rest) = optional_integer(bytes);
-    let rest = symbol(b':', rest)?;
-    let (stop, rest) = optional_integer(rest);
-    let (step, rest) = match symbol(b':', rest) {
+    match symbol(b':', bytes) {
         Some(rest) => optional_integer(rest),
-        None => (None, rest),
-    };
-    Some((IndexItem::Slice { start, stop, step }, rest))
+        None => (None, bytes),
+    }
 }
 
 /// What follows `...`, which must come next.
@@ -35,14 +31,18 @@ fn ellipsis(bytes: &[u8]) -> Option<&[u8]>
 }
 
 /// The next item of an index list, and what follows it.
-#[tactic(auto, unfolding(crate::specs::Indexes::index_item_at))]
+#[tactic(auto, unfolding(crate::specs::Indexes::index_item_at, crate::specs::Indexes::slice_at, crate::specs::Indexes::optional_integer_at, crate::specs::Indexes::ellipsis_at, crate::specs::Tokens::integer_at, crate::specs::Tokens::length_at, crate::specs::Tokens::keyword_at, crate::specs::Tokens::name_at, crate::specs::Tokens::word_at), using(crate::proofs::Spelling::unspaced_twice))]
 fn item(alloc: Global, bytes: &[u8]) -> Option<(IndexItem<Name>, &[u8])>
     ensures { Scans (λ r. (r.0, r.1.now)) result (index_item_at bytes.now) }
 {
-    if let Some(found) = slice(bytes) {
-        return Some(found);
+    let bytes = unspaced(bytes);
+    let (start, rest) = optional_integer(bytes);
+    if let Some(rest) = symbol(b':', rest) {
+        let (stop, rest) = optional_integer(rest);
+        let (step, rest) = step(rest);
+        return Some((IndexItem::Slice { start, stop, step }, rest));
     }
-    if let Some((n, rest)) = integer(bytes) {
+    if let Some(n) = start {
         return Some((IndexItem::Integer(n), rest));
     }
     if let Some(rest) = ellipsis(bytes) {
@@ -55,9 +55,16 @@ fn item(alloc: Global, bytes: &[u8]) -> Option<(IndexItem<Name>, &[u8])>
     Some((IndexItem::Array(Name::from_slice(alloc, name)), rest))
 }
 
-/// Items separated by commas, up to the closing bracket, and what follows it.
-fn items(alloc: Global, bytes: &[u8]) -> Result<(Index, &[u8]), Refusal>
-    ensures { Takes index_room result (by_rule (one_or_more index_item_at 93) bytes.now) }
+/// Whether `...` is there at most once.
+fn has_few_ellipses(items: &[IndexItem<Name>]) -> bool
+    ensures { result ≡ nat_le (count_by is_ellipsis items.now) 1 }
+{
+    items.iter().filter(|item| item.is_ellipsis()).count() <= 1
+}
+
+/// The index list after `[`, and what follows its closing bracket.
+pub fn index(alloc: Global, bytes: &[u8]) -> Result<(Index, &[u8]), Refusal>
+    ensures { Takes index_room result (index_at bytes.now) }
 {
     let mut index = Index::new(alloc);
     let mut rest = bytes;
@@ -67,6 +74,9 @@ fn items(alloc: Global, bytes: &[u8]) -> Result<(Index, &[u8]), Refusal>
         };
         index.push(entry)?;
         if let Some(end) = symbol(b']', after) {
+            if !has_few_ellipses(index.as_slice()) {
+                return Err(Refusal::Syntax);
+            }
             return Ok((index, end));
         }
         let Some(next) = symbol(b',', after) else {
@@ -74,19 +84,6 @@ fn items(alloc: Global, bytes: &[u8]) -> Result<(Index, &[u8]), Refusal>
         };
         rest = next;
     }
-}
-
-/// The index list after `[`, and what follows its closing bracket.
-#[tactic(auto, unfolding(crate::specs::Indexes::index_at), using(crate::proofs::Rooms::index_list_room))]
-fn index(alloc: Global, bytes: &[u8]) -> Result<(Index, &[u8]), Refusal>
-    ensures { Takes index_room result (index_at bytes.now) }
-{
-    let (index, rest) = items(alloc, bytes)?;
-    let ellipses = index.as_slice().iter().filter(|item| item.is_ellipsis());
-    if ellipses.count() > 1 {
-        return Err(Refusal::Syntax);
-    }
-    Ok((index, rest))
 }
 
 /// The index list in the brackets at the front, and what follows them.
@@ -98,21 +95,8 @@ pub fn bracket(alloc: Global, bytes: &[u8]) -> Result<(Index, &[u8]), Refusal>
     index(alloc, inside)
 }
 
-/// The index list in the brackets at the front, or no index if there is no bracket, and what
-/// follows.
-#[tactic(auto, unfolding(crate::specs::Indexes::optional_index_at), using(crate::proofs::Rooms::optional_index_list_room))]
-pub fn optional_index(alloc: Global, bytes: &[u8]) -> Result<(Option<Index>, &[u8]), Refusal>
-    ensures { Takes optional_index_room result (optional_index_at bytes.now) }
-{
-    let Some(inside) = byte(b'[', bytes) else {
-        return Ok((None, bytes));
-    };
-    let (index, rest) = index(alloc, inside)?;
-    Ok((Some(index), rest))
-}
-
 /// The operand of this name, given what follows the name.
-#[tactic(auto, using(crate::proofs::Rooms::indexed_room))]
+#[tactic(auto, unfolding(crate::specs::Indexes::optional_index_at), using(crate::proofs::Rooms::optional_index_list_room, crate::proofs::Rooms::indexed_room))]
 fn operand_named<'a>(
     alloc: Global,
     name: &[u8],
@@ -121,8 +105,12 @@ fn operand_named<'a>(
     requires { length name.now ≤ 32 }
     ensures { Takes operand_room result (one_part (operand_named name.now) optional_index_at bytes.now) }
 {
-    let (index, rest) = optional_index(alloc, bytes)?;
     let name = Name::from_slice(alloc, name);
+    let Some(inside) = byte(b'[', bytes) else {
+        return Ok((Operand { name, index: None }, bytes));
+    };
+    let (index, rest) = index(alloc, inside)?;
+    let index = Some(index);
     Ok((Operand { name, index }, rest))
 }
 
@@ -137,11 +125,11 @@ pub fn operand(alloc: Global, bytes: &[u8]) -> Result<(Operand, &[u8]), Refusal>
 
 /// The next operand or literal, and what follows it. A name begins an operand, unless it begins a
 /// byte string.
-#[tactic(auto, unfolding(crate::specs::Indexes::argument_at, crate::specs::Indexes::operand_at), using(crate::proofs::Rooms::operand_argument_room, crate::proofs::Rooms::literal_argument_room))]
 pub fn argument(alloc: Global, bytes: &[u8]) -> Result<(Argument, &[u8]), Refusal>
     ensures { Takes argument_room result (argument_at bytes.now) }
 {
-    if bytes_mark(unspaced(bytes)).is_none()
+    let bytes = unspaced(bytes);
+    if bytes_mark(bytes).is_none()
         && let Some((name, rest)) = name(bytes)
     {
         let (operand, rest) = operand_named(alloc, name, rest)?;

@@ -2,18 +2,18 @@
 ghost use Rattle.script_lang.specs.Clauses.{plain_view_at, viewing_at, view_at, Takes, viewing_room, value_room};
 
 use crate::command::{Value, Viewing};
-use crate::grammar::indexes::optional_index;
+use crate::grammar::indexes::index;
 use crate::grammar::names::{name, names_unless_verb};
 use crate::grammar::numbers::shape;
 use crate::grammar::quotes::quoted;
-use crate::grammar::tokens::is_at_end;
+use crate::grammar::tokens::{byte, is_at_end};
 use crate::text::Text;
 use crate::verb::ViewVerb;
 use elem_descr::{Name, Refusal};
 use std::alloc::Global;
 
 /// `Y` or `Y[ix]`, given the word `Y` and what follows it.
-#[tactic(auto, unfolding(crate::specs::Commands::plain_view_at), using(crate::proofs::Commands::plain_view_room))]
+#[tactic(auto, unfolding(crate::specs::Commands::plain_view_at, crate::specs::Indexes::optional_index_at), using(crate::proofs::Rooms::optional_index_list_room, crate::proofs::Commands::plain_view_room))]
 pub fn plain_view<'a>(
     alloc: Global,
     word: &[u8],
@@ -24,12 +24,13 @@ pub fn plain_view<'a>(
     if !names_unless_verb(word) {
         return Err(Refusal::Syntax);
     }
-    let (index, rest) = optional_index(alloc, bytes)?;
     let source = Name::from_slice(alloc, word);
-    let how = match index {
-        Some(index) => Viewing::Indexed(index),
-        None => Viewing::Whole,
+    let Some(inside) = byte(b'[', bytes) else {
+        let how = Viewing::Whole;
+        return Ok((Value::View { source, how }, bytes));
     };
+    let (index, rest) = index(alloc, inside)?;
+    let how = Viewing::Indexed(index);
     Ok((Value::View { source, how }, rest))
 }
 

@@ -19,5 +19,5 @@ pub returns-clause-view : goal.returns-clause-view
 returns-clause-view g c =
     let few : axes_taken c.args.items.now ≤ length c.args.layout.now.shape = omega (arith, ap length c.as_slice-lengths.ensures.value, c.taken.ensures, c.if-taken-lengths.false) in
     let same = basic-picks c.args.layout.now.shape c.args.items.now few (sym c.if-not-have_steps.ensures) (ap (λ l. are_on_axes l c.args.items.now) (sym c.as_slice-lengths.ensures.value) ∙ sym c.if-not-are_in_range.ensures) in
-    let shown_is = ap (map pick_shown) c.as_slice.ensures ∙ c.in_ok-picks.ensures.shown ∙ ap (λ l. picks l c.args.items.now) c.as_slice-lengths.ensures.value in
+    let shown_is = ap (map pick_shown) c.as_slice.ensures ∙ c.in_ok-set_picks.ensures.shown ∙ ap (λ l. picks l c.args.items.now) c.as_slice-lengths.ensures.value in
     subst (λ there. GivesView c.args.layout.now c.with_picks.result there) (ap picked_view shown_is ∙ sym same) c.with_picks.ensures.view

@@ -1,7 +1,7 @@
 use Rattle.std.proofs.Common.{◌≡◌, length}
 use Rattle.script_lang.proofs.Words.{by_rule, one_or_more, index_item_at}
 use Rattle.script_lang.proofs.Lists.{in_front}
-use Rattle.script_lang.proofs.grammar.indexes.items.Given as goal
+use Rattle.script_lang.proofs.grammar.indexes.index.Given as goal
 
 -- the items so far, followed by those of the rest, are all items
 abbrev pub invariant-loop-entry : goal.invariant-loop-entry

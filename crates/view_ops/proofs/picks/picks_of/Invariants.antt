@@ -1,5 +1,0 @@
-use Rattle.view_ops.proofs.PickLaws.{HavePicked}
-use Rattle.view_ops.proofs.picks.picks_of.Given as goal
-
-abbrev pub invariant-loop-k : goal.invariant-loop-k
-invariant-loop-k g l = HavePicked l.lengths l.items l.picks.items l.k l.axis
