@@ -1,14 +1,9 @@
 -- The answers to a command and to a line, from what the calls that carry them out ensure.
 use Rattle.std.proofs.Common.{◌⊎◌, Bool, IsTrue, Result, ◌≡◌, ◌≢◌, ◌≤◌, ◌+◌, ℕ, suc, false, List, [], ◌∷◌, Some, None, refl, sym, ap, subst, ◌∙◌, inl, inr, arith, Err, Ok}
-use Rattle.bench_engine.proofs.Words.{nat_cmp, eq_by_cmp, is_eq, Less, Equal, Greater, AllByRecursion, FinMap, get, get-entries, find, entries, nat_cmp-IsAntisymmetric, All-from_recursion, Refusal, LineTooLong, OutOfMemory, Command, Line, silent, bad_byte, misspelt, asks, MayLackRoom, Says, State, Buffer, StoreState, Array, Reply, refusal, Choice, IsAllowed, Outcome, after_outcome, World, world, Refuses, DoesAlone, Meaning, too_long, says, AnswersMeaning, MayAnswer, IsRefused, CarriesOut, Carried, ReadsAs}
+use Rattle.bench_engine.proofs.Words.{unsigned_tied, ne_eqb, nat_cmp, eq_by_cmp, AllByRecursion, FinMap, get, get-entries, find, entries, All-from_recursion, Refusal, LineTooLong, OutOfMemory, Command, Line, silent, bad_byte, misspelt, asks, MayLackRoom, Says, State, Buffer, StoreState, Array, Reply, refusal, Choice, IsAllowed, Outcome, after_outcome, World, world, Refuses, DoesAlone, Meaning, too_long, says, AnswersMeaning, MayAnswer, IsRefused, CarriesOut, Carried, ReadsAs}
 
 apart : (q k : ℕ) → k ≢ q → eq_by_cmp nat_cmp q k ≡ false
-apart q k ne =
-    elim (nat_cmp q k) as (λ r. nat_cmp q k ≡ r → is_eq r ≡ false) [
-      | Less ↦ λ _. refl
-      | Equal ↦ λ e. absurd (ne (sym (nat_cmp-IsAntisymmetric q k e)))
-      | Greater ↦ λ _. refl
-    ] refl
+apart q k ne = unsigned_tied q k ∙ ne_eqb q k (λ e. ne (sym e))
 
 over : List (ℕ × Buffer) → ℕ
 over [] = 0
