@@ -1,9 +1,6 @@
 -- The answers to a command and to a line, from what the calls that carry them out ensure.
-use Rattle.std.proofs.Common.{◌⊎◌, Bool, IsTrue, Result, ◌≡◌, ◌≢◌, ◌≤◌, ◌+◌, ℕ, suc, false, List, [], ◌∷◌, Some, None, refl, sym, ap, subst, ◌∙◌, inl, inr, arith, Err, Ok}
-use Rattle.bench_engine.proofs.Words.{unsigned_tied, ne_eqb, nat_cmp, eq_by_cmp, AllByRecursion, FinMap, get, get-entries, find, entries, All-from_recursion, Refusal, LineTooLong, OutOfMemory, Command, Line, silent, bad_byte, misspelt, asks, MayLackRoom, Says, State, Buffer, StoreState, Array, Reply, refusal, Choice, IsAllowed, Outcome, after_outcome, World, world, Refuses, DoesAlone, Meaning, too_long, says, AnswersMeaning, MayAnswer, IsRefused, CarriesOut, Carried, ReadsAs}
-
-apart : (q k : ℕ) → k ≢ q → eq_by_cmp nat_cmp q k ≡ false
-apart q k ne = unsigned_tied q k ∙ ne_eqb q k (λ e. ne (sym e))
+use Rattle.std.proofs.Common.{◌⊎◌, Bool, IsTrue, Result, ◌≡◌, ◌≤◌, ◌+◌, ℕ, suc, false, List, [], ◌∷◌, Some, None, refl, sym, ap, subst, ◌∙◌, inl, inr, arith, Err, Ok}
+use Rattle.bench_engine.proofs.Words.{unsigned_tied, ne_eqb, nat_cmp, AllByRecursion, FinMap, get, get-entries, find, entries, All-from_recursion, Refusal, LineTooLong, OutOfMemory, Command, Line, silent, bad_byte, misspelt, asks, MayLackRoom, Says, State, Buffer, StoreState, Array, Reply, refusal, Choice, IsAllowed, Outcome, after_outcome, World, world, Refuses, DoesAlone, Meaning, too_long, says, AnswersMeaning, MayAnswer, IsRefused, CarriesOut, Carried, ReadsAs}
 
 over : List (ℕ × Buffer) → ℕ
 over [] = 0
@@ -12,7 +9,7 @@ over (e ∷ es) = suc e.0 + over es
 find-over : (es : List (ℕ × Buffer)) (q : ℕ) → over es ≤ q → find nat_cmp q es ≡ None
 unfolding over
 find-over [] q h = refl
-find-over (e ∷ es) q h = rw (apart q e.0 (λ same. omega arith)) (find-over es q (omega arith))
+find-over (e ∷ es) q h = rw (unsigned_tied q e.0 ∙ ne_eqb q e.0 (λ same. omega arith)) (find-over es q (omega arith))
 
 over_kept : List (List (List ℕ × Array) × FinMap nat_cmp Buffer) → ℕ
 over_kept [] = 0

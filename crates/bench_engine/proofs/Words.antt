@@ -69,7 +69,7 @@ pub use Rattle.std.specs.FinMap.{FinMap, entries, find, get-entries, insert}
 pub use Rattle.std.specs.List.{AllByRecursion, list_any, position_or_len, remove, suffix_len, swap, zip}
 unfoldable pub use Rattle.std.specs.List.{IsDistinct}
 pub use Rattle.std.specs.Option.{option_map}
-pub use Rattle.std.specs.Ordering.{eq_by_cmp, nat_cmp}
+pub use Rattle.std.specs.Ordering.{nat_cmp}
 pub use Rattle.std.specs.Result.{is_ok}
 pub use Rattle.view_ops.specs.Views.{View as ViewOf}
 pub use mir.Syntax.{w128}
