@@ -1,13 +1,11 @@
 -- Items that are to be written: stretched into a shape, and cast.
 use Rattle.std.proofs.Common.{◌≡◌, ◌<◌, ◌≤◌, ◌+◌, ◌*◌, ℕ, zero, suc, Bool, true, false, nat_le, if◌then◌else◌, List, [], ◌∷◌, length, map, get_or, slice_index, Option, Some, None, is_some, refl, sym, ap, ◌∙◌, subst, All, Result, Ok, Err, inl, inr, arith}
-use Rattle.bench_engine.proofs.Words.{get, false≢true, le-leb, get_or-map, length-map, map-map, Refusal, OutOfMemory, TooLarge, NoSuchCast, Descr, item_from, item_size, leaves_of, AreAlike, LeafValue, can_cast, cast_item, Layout, count, indexes, rank, length-offsets, offsets, max_bytes, IsViewOf, GivesView, stretched_into, Items, Owned, Operand, State, addresses, buffer_of, descr_of, read, span_of, placed_item, part_at, Shows, ArrayRef, Bound, Source, Supplies, View, Array, viewed, operand_part, argument_items, LiesIn, Stretches, Fitted, cast_from, StandsFor, LiesInBuffer, Meets}
+use Rattle.bench_engine.proofs.Words.{get, false≢true, le-leb, get_or-map, length-map, map-map, Refusal, OutOfMemory, TooLarge, NoSuchCast, Descr, item_from, item_size, leaves_of, AreAlike, LeafValue, can_cast, cast_item, Layout, count, indexes, rank, length-offsets, offsets, max_bytes, IsViewOf, GivesView, stretched_into, Items, Owned, Operand, State, addresses, buffer_of, descr_of, read, span_of, placed_item, part_at, Shows, ArrayRef, Source, Supplies, View, Array, viewed, operand_part, argument_items, LiesIn, Stretches, Fitted, cast_from, StandsFor, LiesInBuffer, Meets}
 use Rattle.script_lang.specs.declared.command.Argument.TheVariants as argument
-use Rattle.name_store.specs.declared.bound.Bound.TheVariants as bound
 use Rattle.name_store.specs.declared.target.Source.TheVariants as source
 use Rattle.bench_engine.proofs.Assigns.{all-viewed, lies-viewed, stretched-shape}
 use Rattle.bench_engine.proofs.Casts.{cast-none, cast-some}
 use Rattle.bench_engine.proofs.Views.{given-view}
-use Rattle.bench_engine.proofs.Answered.{met}
 
 pub stretches : (view wide : Layout) (shape : List ℕ) → GivesView view (Ok wide) (stretched_into view.shape shape) → Stretches view shape wide
 stretches view wide shape gives =

@@ -1,6 +1,6 @@
 -- Bytes that are split at newlines, and more bytes after them.
 use Rattle.std.proofs.Common.{◌≡◌, ◌≢◌, ◌<◌, ◌≤◌, ◌+◌, ℕ, true, false, List, [], ◌∷◌, ◌++◌, length, map, refl, sym, ap, ◌∙◌, cond, arith, nat_eq, take, get_or, Some, None, nat_lt, one-add, subst, take_all, not, drop, append_assoc, add-one, drop-cons, suc}
-use Rattle.bench_engine.proofs.Words.{position, position_or_len, flat_map, eqb-true, eqb-false, ltb-false, map-append, append-nil, take-append-drop, All-nil, All-cons, All-head, All-tail, All-append, position-Some, flat_map-append, IsUnbroken, Splits, trimmed, if_any, AreWholeLines, AreLines}
+use Rattle.bench_engine.proofs.Words.{cond_some, position, position_or_len, flat_map, eqb-true, eqb-false, ltb-false, map-append, append-nil, take-append-drop, All-nil, All-cons, All-head, All-tail, All-append, position-Some, flat_map-append, IsUnbroken, Splits, trimmed, if_any, AreWholeLines, AreLines}
 
 -- the pieces, each with its newline
 abbrev with_newlines : List (List ℕ) → List ℕ
@@ -111,18 +111,11 @@ before_newline (b ∷ bytes) =
       | false ↦ λ other. rw one-add (All-cons (λ b. b ≢ 10) b (take (position_or_len (λ x. nat_eq x 10) bytes) bytes) (eqb-false b 10 other) (before_newline bytes))
     ] refl
 
-place : (q n end : ℕ) → cond (nat_lt q n) (Some q) None ≡ Some end → q ≡ end
-place q n end is =
-    elim (nat_lt q n) as (λ t. cond t (Some q) None ≡ Some end → q ≡ end) [
-      | true ↦ λ e. cc
-      | false ↦ λ e. cc
-    ] is
-
 -- the bytes up to the first newline contain no other
 pub first_newline : (bytes : List ℕ) (end : ℕ) → position (λ b. nat_eq b 10) bytes ≡ Some end → (end < length bytes) × IsUnbroken (take end bytes) × (get_or bytes end 10 ≡ 10)
 first_newline bytes end is =
     let at = position-Some (λ b. nat_eq b 10) bytes end 10 is in
-    (at.0, subst (λ n. IsUnbroken (take n bytes)) (place (position_or_len (λ b. nat_eq b 10) bytes) (length bytes) end is) (before_newline bytes), eqb-true _ _ at.1)
+    (at.0, subst (λ n. IsUnbroken (take n bytes)) (cond_some (nat_lt (position_or_len (λ b. nat_eq b 10) bytes) (length bytes)) (position_or_len (λ b. nat_eq b 10) bytes) end is).1 (before_newline bytes), eqb-true _ _ at.1)
 
 nowhere : (q n : ℕ) → cond (nat_lt q n) (Some q) None ≡ None → n ≤ q
 nowhere q n is =

@@ -1,6 +1,6 @@
 -- Names that are looked up, and questions about their arrays.
 use Rattle.std.proofs.Common.{◌≡◌, ◌&&◌, ℕ, true, false, List, [], ◌∷◌, Ok, refl, sym, ap, Option, Some, None, Err, is_some}
-use Rattle.bench_engine.proofs.Words.{list_all, UnknownName, Refusal, Ask, Print, offsets, array_text, items_from, State, find_array, is_bound, Shows, ArrayRef, Array, and-true, refusal, world, may_lack_memory, MayAnswer, IsRefused, MayPrint, question_outcome, accepted_with}
+use Rattle.bench_engine.proofs.Words.{list_all, UnknownName, Refusal, Ask, Print, offsets, array_text, items_from, State, find_array, is_bound, Shows, ArrayRef, Array, and-true, refusal, may_lack_memory, IsRefused, MayPrint, question_outcome, accepted_with}
 use Rattle.bench_engine.specs.Words.{Finds}
 use Rattle.script_lang.specs.declared.command.Question.TheVariants as question
 use Rattle.bench_engine.proofs.Steps.{spare, carried}

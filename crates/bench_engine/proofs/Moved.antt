@@ -11,7 +11,7 @@ use Rattle.bench_engine.proofs.Reordered.{Reorders, places-moved, updates-reorde
 use Rattle.bench_engine.proofs.Views.{given-view}
 use Rattle.bench_engine.proofs.Updates.{own_values, stands-own, view-can}
 use Rattle.bench_engine.proofs.WriteOrder.{write-reordered}
-use Rattle.bench_engine.proofs.Written.{old-view}
+use Rattle.bench_engine.proofs.Written.{lies, old-view}
 
 -- ---- nothing moved
 
@@ -34,15 +34,7 @@ leaves-itself s name a part t source new is has =
 own-read : (s : State) (name : List ℕ) (a part : Array) (r : ArrayRef) (l : Layout) → Shows s a r → IsTarget s name a (View l) part → (operand_values s part).stretched_to part.shape ≡ read s part
 own-read s name a part r l shows is =
     let shaped : part.shape ≡ l.shape = ap (λ (x : Array). x.shape) is.part_is in
-    let reads : read s part ≡ map (item_from r.descr.now r.block.now) (offsets l) = read-part s a part r l shows (record {
-      places = is.places;
-      shape = l.shape;
-      part_is = is.part_is;
-      shape_is = refl;
-      offsets_are = is.leads.offsets_are;
-      among = is.leads.among;
-      fits = is.may_write.0;
-    }) in
+    let reads : read s part ≡ map (item_from r.descr.now r.block.now) (offsets l) = read-part s a part r l shows (lies s name a part r shows l is) in
     sym (stretched-same (item_from r.descr.now r.block.now) (λ place. part_at (span_of s part) (placed_item (buffer_of s part).items place)) (offsets l) part.places part.shape part.shape (sym reads)
     (length-offsets l ∙ ap count (sym shaped)) (can-itself part.shape))
     ∙ (λ i. map (item_from r.descr.now r.block.now) (view_through (offsets l) (shaped i) (shaped i) (broadcast_index (shaped i))))

@@ -1,6 +1,6 @@
 -- Operands: parts of arrays, and single items.
 use Rattle.std.proofs.Common.{◌≡◌, ◌+◌, ◌≤◌, ℕ, List, [], ◌∷◌, length, map, All, sym, ap, ◌∙◌}
-use Rattle.bench_engine.proofs.Words.{Descr, item_from, item_size, LeafValue, Layout, offsets, length-offsets, offsets_within, count, view_through, IsViewOf, can_stretch, broadcast_index, stretched_items, Items, Owned, State, buffer_of, span_of, placed_item, part_at, Shows, ArrayRef, View, Array, OperandValues, operand_values, one_item, viewed, Holds, StandsFor, Stands, OwnStands}
+use Rattle.bench_engine.proofs.Words.{Descr, item_from, item_size, LeafValue, Layout, offsets, length-offsets, offsets_within, count, view_through, IsViewOf, can_stretch, broadcast_index, stretched_items, Items, Owned, State, buffer_of, span_of, placed_item, part_at, Shows, ArrayRef, View, Array, OperandValues, operand_values, one_item, viewed, StandsFor, Stands, OwnStands}
 use Rattle.bench_engine.proofs.Assigns.{all-viewed, lies-whole, lies-viewed}
 use Rattle.bench_engine.proofs.Sets.{read-part}
 use Rattle.bench_engine.proofs.StretchLaws.{stretched-same, one-stretched, map-replicate}

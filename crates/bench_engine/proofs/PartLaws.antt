@@ -1,6 +1,6 @@
 -- What an index list selects from an array.
-use Rattle.std.proofs.Common.{◌≡◌, true, false, ℕ, List, refl, sym, ap, ◌∙◌, subst, Bor, Ok}
-use Rattle.bench_engine.proofs.Words.{list_all, IndexItem, C, is_basic, item_size, Layout, Owned, offsets_in, State, descr_of, read, Shows, ArrayRef, View, Array, new_contents, taken, a_view, a_copy, viewed, part_seen, Viewed, Holds, IsAimed, held, IsOf, IsSeen, Meets}
+use Rattle.std.proofs.Common.{◌≡◌, true, false, ℕ, List, refl, sym, ap, ◌∙◌, subst, Ok}
+use Rattle.bench_engine.proofs.Words.{list_all, IndexItem, C, is_basic, item_size, Layout, Owned, offsets_in, State, descr_of, read, Shows, ArrayRef, View, Array, new_contents, taken, a_view, a_copy, viewed, part_seen, Viewed, Holds, IsAimed, held, IsSeen, Meets}
 use Rattle.name_store.specs.declared.bound.Bound.TheVariants as bound
 use Rattle.name_store.specs.declared.target.Target.TheVariants as target
 use Rattle.bench_engine.proofs.Copies.{made-held}

@@ -1,14 +1,6 @@
 -- The answers to a command and to a line, from what the calls that carry them out ensure.
-use Rattle.std.proofs.Common.{◌⊎◌, Bool, IsTrue, Result, ◌≡◌, ◌≢◌, ◌≤◌, ◌+◌, ℕ, suc, false, List, [], ◌∷◌, Some, None, refl, sym, ap, subst, ◌∙◌, inl, inr, arith, Err, Ok}
-use Rattle.bench_engine.proofs.Words.{nat_cmp, eq_by_cmp, is_eq, Less, Equal, Greater, AllByRecursion, FinMap, get, get-entries, find, entries, nat_cmp-IsAntisymmetric, All-from_recursion, Refusal, LineTooLong, OutOfMemory, Command, Line, silent, bad_byte, misspelt, asks, MayLackRoom, Says, State, Buffer, StoreState, Array, Reply, refusal, Choice, IsAllowed, Outcome, after_outcome, World, world, Refuses, DoesAlone, Meaning, too_long, says, AnswersMeaning, MayAnswer, IsRefused, CarriesOut, Carried, ReadsAs}
-
-apart : (q k : ℕ) → k ≢ q → eq_by_cmp nat_cmp q k ≡ false
-apart q k ne =
-    elim (nat_cmp q k) as (λ r. nat_cmp q k ≡ r → is_eq r ≡ false) [
-      | Less ↦ λ _. refl
-      | Equal ↦ λ e. absurd (ne (sym (nat_cmp-IsAntisymmetric q k e)))
-      | Greater ↦ λ _. refl
-    ] refl
+use Rattle.std.proofs.Common.{◌⊎◌, Bool, IsTrue, Result, ◌≡◌, ◌≤◌, ◌+◌, ℕ, suc, false, List, [], ◌∷◌, Some, None, refl, sym, ap, subst, ◌∙◌, inl, inr, arith, Err, Ok}
+use Rattle.bench_engine.proofs.Words.{unsigned_tied, ne_eqb, nat_cmp, AllByRecursion, FinMap, get, get-entries, find, entries, All-from_recursion, Refusal, LineTooLong, OutOfMemory, Command, Line, silent, bad_byte, misspelt, asks, MayLackRoom, Says, State, Buffer, StoreState, Array, Reply, refusal, Choice, IsAllowed, Outcome, after_outcome, World, world, Refuses, DoesAlone, Meaning, too_long, says, AnswersMeaning, MayAnswer, IsRefused, CarriesOut, Carried, ReadsAs}
 
 over : List (ℕ × Buffer) → ℕ
 over [] = 0
@@ -17,7 +9,7 @@ over (e ∷ es) = suc e.0 + over es
 find-over : (es : List (ℕ × Buffer)) (q : ℕ) → over es ≤ q → find nat_cmp q es ≡ None
 unfolding over
 find-over [] q h = refl
-find-over (e ∷ es) q h = rw (apart q e.0 (λ same. omega arith)) (find-over es q (omega arith))
+find-over (e ∷ es) q h = rw (unsigned_tied q e.0 ∙ ne_eqb q e.0 (λ same. omega arith)) (find-over es q (omega arith))
 
 over_kept : List (List (List ℕ × Array) × FinMap nat_cmp Buffer) → ℕ
 over_kept [] = 0

@@ -1,6 +1,6 @@
 -- Items that are stored in C order or in Fortran order, and their places.
 use Rattle.std.proofs.Common.{◌≡◌, ◌+◌, ◌*◌, ◌<◌, ℕ, zero, suc, List, [], ◌∷◌, length, map, take, drop, reverse, get_or, refl, sym, ap, ◌∙◌, arith}
-use Rattle.bench_engine.proofs.Words.{range_with_len, mul-div_cancel_left, length-map, get_or-map, same_lists, reverse-reverse, length-map-range_with_len, get_or-map-range_with_len, Descr, item_size, decode_item, blocks, items_in, item_from, LeafValue, MemoryOrder, C, Fortran, count, indexes, rank, IsIndex, length-indexes, get_or-indexes, index_at, rank-lt, count-reverse, IsIndex-from_reverse, multiples, f_multiples, offsets_in, places_of, ordered, places_in}
+use Rattle.bench_engine.proofs.Words.{drop-drop, range_with_len, mul-div_cancel_left, length-map, get_or-map, same_lists, reverse-reverse, length-map-range_with_len, get_or-map-range_with_len, Descr, item_size, decode_item, blocks, items_in, item_from, LeafValue, MemoryOrder, C, Fortran, count, indexes, rank, IsIndex, length-indexes, get_or-indexes, index_at, rank-lt, count-reverse, IsIndex-from_reverse, multiples, f_multiples, offsets_in, places_of, ordered, places_in}
 use Rattle.bench_engine.specs.NewArrayLaws.{divided}
 
 -- ---- places
@@ -18,19 +18,10 @@ places-stored Fortran item shape some = divided-each item (λ index. rank (rever
 -- adjacent items, from the one at `a` on
 blocks-from : (size a n : ℕ) (bytes : List ℕ) → map (λ offset. take size (drop offset bytes)) (map (λ k. size * k) (range_with_len a n)) ≡ blocks size n (drop (size * a) bytes)
 blocks-from size a zero bytes = refl
-blocks-from size a (suc n) bytes = λ i. take size (drop (size * a) bytes) ∷ (blocks-from size (a + 1) n bytes ∙ ap (blocks size n) (ap (λ m. drop m bytes) (more size a) ∙ drop-drop (size * a) size bytes)) i
+blocks-from size a (suc n) bytes = λ i. take size (drop (size * a) bytes) ∷ (blocks-from size (a + 1) n bytes ∙ ap (blocks size n) (ap (λ m. drop m bytes) (more size a) ∙ sym (drop-drop size (size * a) bytes))) i
   where
     more : (size a : ℕ) → size * (a + 1) ≡ size * a + size
     more size a = omega arith
-
-    nothing : (m : ℕ) → drop {A = ℕ} m [] ≡ []
-    nothing zero = refl
-    nothing (suc m) = refl
-
-    drop-drop : (n m : ℕ) (xs : List ℕ) → drop (n + m) xs ≡ drop m (drop n xs)
-    drop-drop zero m xs = let same : 0 + m ≡ m = omega arith in ap (λ k. drop k xs) same
-    drop-drop (suc n) m [] = nothing (suc n + m) ∙ sym (nothing m)
-    drop-drop (suc n) m (x ∷ xs) = let same : suc n + m ≡ suc (n + m) = omega arith in ap (λ k. drop k (x ∷ xs)) same ∙ drop-drop n m xs
 
 pub items-from : (descr : Descr) (n : ℕ) (bytes : List ℕ) → map (item_from descr bytes) (multiples (item_size descr) n) ≡ items_in descr n bytes
 items-from descr n bytes = sym (twice (multiples (item_size descr) n)) ∙ ap (map (decode_item descr)) (blocks-from (item_size descr) 0 n bytes ∙ ap (λ m. blocks (item_size descr) n (drop m bytes)) (none (item_size descr)))

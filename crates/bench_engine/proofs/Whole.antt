@@ -1,6 +1,6 @@
 -- The outcome of a run, from the state of its session.
 use Rattle.std.proofs.Common.{◌≡◌, ◌≢◌, [], ◌⊎◌, inl, inr, ◌++◌, ap, ◌∙◌, sym, append_assoc, zero-add, ℕ, List, Option, Some, None, Err, subst, IfSome, refl, map}
-use Rattle.bench_engine.proofs.Words.{Consumes, IsAtEnd, StoreState, RunFault, Read, Write, Session, Summary, World, world, IsNew, AreLines, AreWholeLines, Outside, first_world, AnswersScript, AnswersWholeLines, AnswersInPart, AnswersFirstLines, ComesTo, trimmed, Ended, Reading, Turned, All-nil, appends_nothing}
+use Rattle.bench_engine.proofs.Words.{Consumes-nil, Consumes, IsAtEnd, StoreState, RunFault, Read, Write, Session, Summary, World, world, IsNew, AreLines, AreWholeLines, Outside, first_world, AnswersScript, AnswersWholeLines, AnswersInPart, AnswersFirstLines, ComesTo, trimmed, Ended, Reading, Turned, All-nil, appends_nothing}
 use Rattle.bench_engine.specs.declared.runner.RunFault.TheVariants.{Memory}
 use Rattle.bench_engine.proofs.Lines.{splits-one, lines-front}
 use Rattle.bench_engine.proofs.Known.{all_read}
@@ -70,15 +70,11 @@ first-lines depth before after input lines read come some = record {
   some = some;
 }
 
-consumes_none : (known : Option (List ℕ)) → Consumes known known []
-consumes_none None = tt
-consumes_none (Some bytes) = refl
-
 -- nothing is read yet
 pub reading-new : (depth : ℕ) (before : Outside) (session : Session) → IsNew depth session → Reading depth before before session
 reading-new depth before session new = record {
   input = [];
-  read = consumes_none before.unread;
+  read = Consumes-nil before.unread;
   fed = record {
     pieces = [];
     rest = [];

@@ -15,7 +15,7 @@ some-inside P item start places some all among =
 module _ (s : State) (name : List ℕ) (a part : Array) (r : ArrayRef) (shows : Shows s a r) where
   -- ---- a view
 
-  lies : (layout : Layout) → IsTarget s name a (target.View layout) part → LiesIn s a part layout
+  pub lies : (layout : Layout) → IsTarget s name a (target.View layout) part → LiesIn s a part layout
   lies layout is = record {
     places = is.places;
     shape = layout.shape;

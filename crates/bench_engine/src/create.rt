@@ -4,13 +4,13 @@ ghost use Rattle.bench_engine.specs.Clauses.{Gives, Answers, item_size, decode_i
 
 use crate::replies::{Origin, set_bound_text};
 use crate::reply_text::ReplyText;
-use arrays::Owned;
+use arrays::{Owned, bytes_of};
 use elem_descr::{Descr, MemoryOrder, Name, Refusal, Scalar, descr_read};
 use literal_items::{range_block, range_len, write_item, write_items};
 use name_store::{Bench, Bound};
 use raw_block::{BlockBuilder, RawBlock};
 use script_lang::{Lengths, Literal, Literals, NewItems, Text};
-use shape_strides::{MAX_BYTES, Shape};
+use shape_strides::Shape;
 use smallvec::{SmallVec, smallvec};
 use std::alloc::{AllocError, Global};
 
@@ -49,9 +49,7 @@ pub fn array_type(
 {
     let descr = descr_read(alloc, descr)?;
     let shape = shape?;
-    if shape.items() * descr.size() > MAX_BYTES {
-        return Err(Refusal::TooLarge);
-    }
+    bytes_of(shape.items(), &descr)?;
     Ok((descr, shape))
 }
 

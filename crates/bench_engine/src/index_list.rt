@@ -3,12 +3,11 @@
 ghost use Rattle.std.specs.Prelude.{◌≡◌, ◌∷◌, [], true, map, IfOk, option_copied, unwrap_or};
 ghost use Rattle.bench_engine.specs.Clauses.{list_all, index_item_of, index_items, is_bound, Shows, is_basic, Array, names_in_item, names_in_index, array_by_items, taken, Meets, IsAimed, IsNamed, Knows};
 
-use arrays::Items;
+use arrays::{Items, bytes_of};
 use elem_descr::{IndexItem, Name, Refusal};
 use fancy_index::plan;
 use name_store::{ArrayRef, Bench, Target};
 use script_lang::Index;
-use shape_strides::MAX_BYTES;
 use std::alloc::{AllocError, Global};
 
 /// Whether the name in an item is bound.
@@ -104,8 +103,6 @@ pub fn named_target(
     }
     let items = with_arrays(alloc, bench, index)?;
     let plan = plan(alloc, array.layout, items.as_slice())?;
-    if plan.len() * array.descr.size() > MAX_BYTES {
-        return Err(Refusal::TooLarge);
-    }
+    bytes_of(plan.len(), array.descr)?;
     Ok(Target::Plan(plan))
 }

@@ -1,6 +1,6 @@
 -- Binding a name, and keeping the change.
 use Rattle.std.proofs.Common.{◌≡◌, ◌+◌, ◌≤◌, ℕ, Bool, true, false, List, [], ◌∷◌, ◌++◌, length, map, min, refl, sym, ap, subst, ◌∙◌, cond, Option, Some, None, is_some, IfSome, Result, Ok, Err, IsOk, IfOk, OnOk, OnErr, nat_eq, arith, inl, inr}
-use Rattle.name_store.proofs.Words.{none-some, or_cases, AllByRecursion, list_any, lookup, option_map, nat_cmp_total, get, retain_keys, get-insert, get-retain_keys, same_map, nat_cmp-IsAntisymmetric, eqb-true, All-from_recursion, recursion_from_All, item_size, buffer, keep_last, insert_entry, Layout, count, Owned, Ring, find_array, put_array, without, is_in_use, has_room_for, keeping, Binds, IsUnused, own_array, own_buffer, Holds, IsSound, LiesAt, IsUndoable, one_at, users_of, users_at, users_in, found_at, pins, all_pins, Names, names_before, past_buffers, past_buffer, kept_states, Array, State, array_at, named_array, buffer_in, slot_at, present, state_of, IsViewIn, MayBind, Bound, Fresh, Change, Bind, Entry, Slot, stand, Adds, IsOf, Lodges, Rebinds}
+use Rattle.name_store.proofs.Words.{unsigned_tied, none-some, or_cases, AllByRecursion, list_any, lookup, option_map, nat_cmp_total, get, retain_keys, get-insert, get-retain_keys, same_map, nat_cmp-IsAntisymmetric, eqb-true, All-from_recursion, recursion_from_All, item_size, buffer, keep_last, insert_entry, Layout, count, Owned, Ring, find_array, put_array, without, is_in_use, has_room_for, keeping, Binds, IsUnused, own_array, own_buffer, Holds, IsSound, LiesAt, IsUndoable, one_at, users_of, users_at, users_in, found_at, pins, all_pins, Names, names_before, past_buffers, past_buffer, kept_states, Array, State, array_at, named_array, buffer_in, slot_at, present, state_of, IsViewIn, MayBind, Bound, Fresh, Change, Bind, Entry, Slot, stand, Adds, IsOf, Lodges, Rebinds}
 use Rattle.std.specs.FinMap.{insert}
 use Rattle.name_store.specs.declared.bound.Bound.TheVariants.{View}
 use Rattle.name_store.proofs.FreshLaws.{fresh-lies, fresh-array_at, fresh-buffer}
@@ -9,7 +9,7 @@ use Rattle.name_store.proofs.KeepLaws.{keep-sound, keep-state}
 use Rattle.name_store.proofs.NameLaws.{TestsName, find-lookup, put-insert, all-both, all-insert, all-lookup, used-back-put, without-put, put-put, nat_itself}
 use Rattle.name_store.proofs.Needs.{needs, is_needed, occupied, number_of, users-put, made-held, kept-counted}
 use Rattle.name_store.proofs.PastLaws.{Alike, none-either, alike-shape, past-alike, lies-shaped, Restored, same-buffers, kept-none, kept-some, Slots}
-use Rattle.name_store.proofs.SlotLaws.{tests_agree, get-past, get-buffers}
+use Rattle.name_store.proofs.SlotLaws.{get-past, get-buffers}
 use Rattle.name_store.proofs.StateLaws.{Freed, few-bound, lies-there}
 use Rattle.name_store.proofs.UnbindLaws.{same-content, fewer-buffers}
 use Rattle.name_store.proofs.ViewLaws.{view-used, view-array, view-lies}
@@ -85,7 +85,7 @@ module _ (es : List (List ℕ × Entry)) (slots now : Slots) (v : Entry) (slot :
       ∙ at q
       ∙ ap (λ b. cond (is_in_use names' q) b None)
       (ap (cond (nat_eq q v.number) (Some (own_buffer o))) (sym (get-buffers es slots q))
-      ∙ ap (λ t. cond t (Some (own_buffer o)) (get (present es slots).buffers q)) (sym (tests_agree q v.number))
+      ∙ ap (λ t. cond t (Some (own_buffer o)) (get (present es slots).buffers q)) (sym (unsigned_tied q v.number))
       ∙ sym (get-insert nat_cmp_total (present es slots).buffers v.number (own_buffer o) q))
       ∙ sym (get-retain_keys (insert (present es slots).buffers v.number (own_buffer o)) (is_in_use names') q (λ x e. ap (is_in_use names') (sym (nat_cmp-IsAntisymmetric q x e)))))
     where

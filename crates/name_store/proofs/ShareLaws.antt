@@ -1,12 +1,11 @@
 -- Arrays in one buffer share cells if and only if their items share a byte.
-use Rattle.std.proofs.Common.{◌≡◌, ◌+◌, ◌*◌, ◌<◌, ◌≤◌, ◌&&◌, ◌||◌, ◌⊎◌, inl, inr, ℕ, zero, suc, Bool, true, false, List, [], ◌∷◌, length, take, refl, sym, ap, subst, ◌∙◌, Some, nat_eq, nat_lt, arith, pos, ◌+ℤ◌, ◌≤ℤ◌}
-use Rattle.name_store.proofs.Words.{list_any, range_with_len, lookup, ints, eqb-true, eqb-false, ltb-true, lt-ltb, le-ltb, ne_eqb, cases_lt, and_parts, and-false, and-true, same_from_decides, Descr, item_size, leaves_of, leaves_in, fields, field_at, Layout, max_bytes, address, offsets, Fits, offsets_of, places_of, have_common_byte, mul-step, Buffer, buffer_of, share_cells, Holds, LiesIn, IsPathOf, descr_at, start_at, first_at, have_common, share_leaves, IsElementType, array_at, slot_at, present, Entry, Slot}
+use Rattle.std.proofs.Common.{◌≡◌, ◌+◌, ◌*◌, ◌<◌, ◌≤◌, ◌&&◌, ◌||◌, ◌⊎◌, inl, inr, ℕ, zero, suc, Bool, true, false, List, [], ◌∷◌, length, take, refl, sym, ap, subst, ◌∙◌, Option, Some, None, cond, map, unwrap_or, nat_eq, nat_lt, arith, pos, ◌+ℤ◌, ◌≤ℤ◌}
+use Rattle.name_store.proofs.Words.{list_any, range_with_len, get, ints, eqb-true, eqb-false, ltb-true, lt-ltb, le-ltb, ne_eqb, cases_lt, and_parts, and-false, and-true, same_from_decides, Descr, item_size, leaves_of, leaves_in, fields, field_at, Layout, max_bytes, address, offsets, Fits, offsets_of, have_common_byte, mul-step, State, Array, Buffer, buffer_of, no_buffer, share_cells, IsLaidOut, IsPathOf, Shows, descr_at, start_at, first_at, have_common, share_leaves, IsElementType, is_in_use, named_array, slot_at, present, buffer_in, option_map, ArrayRef, Entry, Slot}
 use Rattle.name_store.proofs.FieldSplits.{field-legal, field-before, field_leaves-before}
-use Rattle.name_store.proofs.NameLaws.{TestsName, lookup-used, nat_itself}
-use Rattle.name_store.proofs.PartLaws.{part-leaves, part-some, part-within, span-within}
-use Rattle.name_store.proofs.ShowLaws.{buffer-found}
-use Rattle.name_store.proofs.StateLaws.{found-lies}
+use Rattle.name_store.proofs.NameLaws.{nat_itself}
+use Rattle.name_store.proofs.SlotLaws.{get-buffers}
 use Rattle.name_store.proofs.PastLaws.{Slots}
+use Rattle.name_store.proofs.PartLaws.{part-leaves, part-some, part-within, span-within}
 
 lt-same : (a b c d : ℕ) → (a < b → c < d) → (c < d → a < b) → nat_lt a b ≡ nat_lt c d
 lt-same a b c d there back =
@@ -191,11 +190,19 @@ parts-meet descr path other legal is other-is =
     (λ i. begins-same descr path other legal is other-is i && begins-same descr other path legal other-is is i)
     ∙ common-ends (first_at descr path) (length (leaves_of (descr_at descr path))) (first_at descr other) (length (leaves_of (descr_at descr other))) (part-leaves descr legal path is) (part-leaves descr legal other other-is)
 
+-- ---- arrays that are shown
+
+-- the element type of a buffer is valid
+pub buffer-legal : (es : List (List ℕ × Entry)) (slots : Slots) (number : ℕ) → IsElementType (unwrap_or (get (present es slots).buffers number) no_buffer).descr
+buffer-legal es slots number = subst (λ o. IsElementType (unwrap_or o no_buffer).descr) (sym (get-buffers es slots number)) (by-use (is_in_use (map named_array es) number) (slot_at slots number))
+  where
+    by-use : (used : Bool) (o : Option Slot) → IsElementType (unwrap_or (cond used (option_map buffer_in o) None) no_buffer).descr
+    by-use true (Some s) = s.is_whole.legal
+    by-use _ _ = omega arith
+
 -- two arrays in different buffers
-pub shares-apart : (es : List (List ℕ × Entry)) (slots : Slots) (a b : Entry) → (a.number ≡ b.number → ⊥) → false ≡ share_cells (present es slots) (array_at a) (array_at b)
-shares-apart es slots a b ne =
-    sym (ap (λ t. t && share_leaves (buffer_of (present es slots) (array_at a)).descr a.path b.path && have_common (places_of a.item (offsets a.layout)) (places_of b.item (offsets b.layout)))
-    (ne_eqb a.number b.number ne))
+pub shares-apart : (s : State) (a b : Array) → (a.buffer ≡ b.buffer → ⊥) → false ≡ share_cells s a b
+shares-apart s a b ne = sym (ap (λ t. t && share_leaves (buffer_of s a).descr a.path b.path && have_common a.places b.places) (ne_eqb a.buffer b.buffer ne))
 
 Fits-longer : (l : Layout) (short long item : ℕ) → short ≤ long → Fits l short item → Fits l long item
 Fits-longer l short long item more fits = record {
@@ -205,43 +212,37 @@ Fits-longer l short long item more fits = record {
       omega (arith, ints);
 }
 
-module _ (es : List (List ℕ × Entry)) (slots : Slots) (h : Holds es slots) (test : List ℕ → Bool) (name : List ℕ) (is : TestsName test name) (e : Entry) (was : lookup test es ≡ Some e) (slot : Slot) (there : slot_at slots e.number ≡ Some slot) where
-  lies : LiesIn slot e
-  lies = found-lies es slots h test name is e slot was there
+pub shown-fits : (s : State) (a : Array) (r : ArrayRef) → Shows s a r → Fits r.layout.now max_bytes (item_size r.descr.now)
+shown-fits s a r shows =
+    let small : length (buffer_of s a).items * item_size (buffer_of s a).descr ≤ max_bytes = subst (λ n. n ≤ max_bytes) shows.whole shows.small in
+    subst (λ (d : Descr). Fits r.layout.now max_bytes (item_size d)) shows.descr (Fits-longer r.layout.now _ max_bytes _ small shows.view.laid.fits)
 
-  abbrev width : ℕ
-  width = item_size (descr_at slot.descr e.path)
+-- two arrays in the same buffer
+pub shares-one : (s : State) (a b : Array) (r q : ArrayRef) → IsElementType (buffer_of s a).descr → Shows s a r → Shows s b q → a.buffer ≡ b.buffer →
+    have_common_byte (offsets r.layout.now) (item_size r.descr.now) (offsets q.layout.now) (item_size q.descr.now) ≡ share_cells s a b
+shares-one s a b r q legal shows shows' same =
+    (λ i. have_common_byte (laid.places i) (item_size (sym shows.descr i)) (laid'.places i) (item_size (sym typed i)))
+    ∙ common-parts (item_size descr) (start_at descr a.path) (item_size (descr_at descr a.path)) (start_at descr b.path) (item_size (descr_at descr b.path)) meet
+    (part-within descr legal a.path laid.part) (part-within descr legal b.path laid'.part)
+    (parts-meet descr a.path b.path legal laid.part laid'.part)
+    a.places b.places
+    ∙ beside meet a.places b.places
+    ∙ sym (ap (λ t. t && meet && have_common a.places b.places) (ap (nat_eq a.buffer) (sym same) ∙ nat_itself a.buffer))
+  where
+    descr : Descr
+    descr = (buffer_of s a).descr
 
-  pub entry-path : IsPathOf slot.descr e.path
-  entry-path = lies.laid.part
+    meet : Bool
+    meet = share_leaves descr a.path b.path
 
-  pub entry-fits : Fits e.layout max_bytes width
-  entry-fits =
-      let small : slot.items * item_size slot.descr ≤ max_bytes = omega (arith, slot.is_whole.whole, slot.is_whole.small) in
-      Fits-longer e.layout (slot.items * item_size slot.descr) max_bytes width small lies.laid.fits
+    laid : IsLaidOut descr (length (buffer_of s a).items) a r.layout.now r.writable
+    laid = shows.view.laid
 
-  -- two arrays in the same buffer
-  pub shares-one : (test' : List ℕ → Bool) (name' : List ℕ) → TestsName test' name' → (e' : Entry) → lookup test' es ≡ Some e' → e.number ≡ e'.number →
-      have_common_byte (offsets e.layout) width (offsets e'.layout) (item_size (descr_at slot.descr e'.path)) ≡ share_cells (present es slots) (array_at e) (array_at e')
-  shares-one test' name' is' e' was' same =
-      (λ i. have_common_byte (lies.laid.places i) width (lies'.laid.places i) width')
-      ∙ common-parts (item_size slot.descr) (start_at slot.descr e.path) width (start_at slot.descr e'.path) width' meet
-      (part-within slot.descr slot.is_whole.legal e.path lies.laid.part) (part-within slot.descr slot.is_whole.legal e'.path lies'.laid.part)
-      (parts-meet slot.descr e.path e'.path slot.is_whole.legal lies.laid.part lies'.laid.part)
-      (places_of e.item (offsets e.layout)) (places_of e'.item (offsets e'.layout))
-      ∙ beside meet (places_of e.item (offsets e.layout)) (places_of e'.item (offsets e'.layout))
-      ∙ ap (λ (b : Buffer). share_leaves b.descr e.path e'.path && have_common (places_of e.item (offsets e.layout)) (places_of e'.item (offsets e'.layout))) (sym (buffer-found es slots e slot (lookup-used test es e was) there))
-      ∙ sym (ap (λ t. t && share_leaves (buffer_of (present es slots) (array_at e)).descr e.path e'.path && have_common (places_of e.item (offsets e.layout)) (places_of e'.item (offsets e'.layout)))
-      (ap (nat_eq e.number) (sym same) ∙ nat_itself e.number))
-    where
-      there' : slot_at slots e'.number ≡ Some slot
-      there' = ap (slot_at slots) (sym same) ∙ there
+    one : buffer_of s b ≡ buffer_of s a
+    one = ap (λ n. unwrap_or (get s.buffers n) no_buffer) (sym same)
 
-      lies' : LiesIn slot e'
-      lies' = found-lies es slots h test' name' is' e' slot was' there'
+    laid' : IsLaidOut descr (length (buffer_of s a).items) b q.layout.now q.writable
+    laid' = subst (λ (x : Buffer). IsLaidOut x.descr (length x.items) b q.layout.now q.writable) one shows'.view.laid
 
-      width' : ℕ
-      width' = item_size (descr_at slot.descr e'.path)
-
-      meet : Bool
-      meet = share_leaves slot.descr e.path e'.path
+    typed : descr_at descr b.path ≡ q.descr.now
+    typed = subst (λ (x : Buffer). descr_at x.descr b.path ≡ q.descr.now) one shows'.descr

@@ -1,6 +1,6 @@
 -- Slots by number, and the buffers in them.
-use Rattle.std.proofs.Common.{◌≡◌, ◌≢◌, ◌+◌, ◌<◌, ◌≤◌, ℕ, zero, suc, Bool, true, false, List, [], ◌∷◌, ◌++◌, length, map, refl, sym, ap, ◌∙◌, cond, Option, Some, None, is_some, nat_eq, slice_set, get_or, arith, MutBor}
-use Rattle.name_store.proofs.Words.{eqb-suc-suc, eqb-suc-zero, eqb-zero-suc, option_copied_mut, option_map, nat_cmp, eq_by_cmp, is_eq, nat_cmp_total, eq_by_cmp_equiv, Less, Equal, Greater, get, find, from_entries, get-from_entries, get-retain_keys, nat_cmp-IsAntisymmetric, eqb-true, eqb-false, is_in_use, Names, numbered, past_buffer, past_buffers, named_array, slot_at, buffer_in, present, Change, Entry, Slot}
+use Rattle.std.proofs.Common.{◌≡◌, ◌≢◌, ◌+◌, ◌<◌, ◌≤◌, ℕ, zero, suc, true, false, List, [], ◌∷◌, ◌++◌, length, map, refl, sym, ap, ◌∙◌, cond, Option, Some, None, is_some, nat_eq, slice_set, get_or, arith, MutBor}
+use Rattle.name_store.proofs.Words.{eqb-suc-suc, eqb-suc-zero, eqb-zero-suc, option_copied_mut, option_map, unsigned_tied, ne_eqb, nat_cmp, eq_by_cmp, nat_cmp_total, get, find, from_entries, get-from_entries, get-retain_keys, nat_cmp-IsAntisymmetric, is_in_use, Names, numbered, past_buffer, past_buffers, named_array, slot_at, buffer_in, present, Change, Entry, Slot}
 use Rattle.name_store.proofs.NameLaws.{nat_itself}
 
 -- the slot of each number after one slot is set, or one is pushed
@@ -44,22 +44,8 @@ pub lent-there : (slots : List (Option Slot)) (n : ℕ) (d : Option Slot) (r : O
 lent-there slots n d r s inside is lent = sym (is ∙ slot_at-get_or slots n d inside) ∙ ap option_copied_mut lent
 
 -- the test of a key in a map of numbers is equality
-abbrev is_number : ℕ → ℕ → Bool
-is_number q k = eq_by_cmp nat_cmp q k
-
-apart : (q k : ℕ) → k ≢ q → is_number q k ≡ false
-apart q k ne =
-    elim (nat_cmp q k) as (λ r. nat_cmp q k ≡ r → is_eq r ≡ false) [
-      | Less ↦ λ _. refl
-      | Equal ↦ λ e. absurd (ne (sym (nat_cmp-IsAntisymmetric q k e)))
-      | Greater ↦ λ _. refl
-    ] refl
-
-pub tests_agree : (q k : ℕ) → is_number q k ≡ nat_eq q k
-tests_agree q k = elim (nat_eq q k) as (λ t. nat_eq q k ≡ t → is_number q k ≡ t) [
-  | true ↦ λ e. ap (is_number q) (sym (eqb-true q k e)) ∙ (eq_by_cmp_equiv nat_cmp_total).refl q
-  | false ↦ λ e. apart q k (λ s. eqb-false q k e (sym s))
-] refl
+apart : (q k : ℕ) → k ≢ q → eq_by_cmp nat_cmp q k ≡ false
+apart q k ne = unsigned_tied q k ∙ ne_eqb q k (λ e. ne (sym e))
 
 -- the slots numbered from `n` on have no number below `n`
 find-below : (cs : List Change) (n : ℕ) (slots : List (Option Slot)) (q : ℕ) → q < n → find nat_cmp q (numbered cs n slots) ≡ None
@@ -73,7 +59,7 @@ find-numbered cs n (None ∷ slots) zero k is = find-below cs (suc n) slots k (o
 find-numbered cs n (None ∷ slots) (suc q) k is = find-numbered cs (suc n) slots q k (omega (arith, is))
 find-numbered cs n (Some s ∷ slots) zero k is =
     let here : k ≡ n = omega (arith, is) in
-    rw (tests_agree k n, ap (λ m. nat_eq m n) here ∙ nat_itself n) (ap (λ m. Some (past_buffer cs m s)) (sym here))
+    rw (unsigned_tied k n, ap (λ m. nat_eq m n) here ∙ nat_itself n) (ap (λ m. Some (past_buffer cs m s)) (sym here))
 find-numbered cs n (Some s ∷ slots) (suc q) k is =
     rw (apart k n (λ e. let no : ⊥ = omega (arith, is, e) in no)) (find-numbered cs (suc n) slots q k (omega (arith, is)))
 

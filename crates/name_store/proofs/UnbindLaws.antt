@@ -1,6 +1,6 @@
 -- Unbinding a name, and keeping the change.
 use Rattle.std.proofs.Common.{◌≡◌, ◌+◌, ◌<◌, ◌≤◌, ℕ, zero, suc, Bool, true, false, List, [], ◌∷◌, ◌++◌, length, map, min, position, insert, refl, sym, ap, subst, ◌∙◌, cond, Option, Some, None, is_some, nat_lt, arith}
-use Rattle.name_store.proofs.Words.{AllByRecursion, position_or_len, lookup, keys_of, option_map, ltb-true, length-map, buffer, keep_last, shift_remove_entry, Ring, find_array, is_in_use, without, unbound, Holds, IsSound, LiesAt, IsUndoable, users_at, users_in, found_at, pins, all_pins, Names, names_before, past_buffers, past_buffer, bytes_before, array_at, named_array, slot_at, state_of, present, Change, Unbind, Entry, Slot, stand, nat_cmp_total, retain_keys, get-retain_keys, same_map, nat_cmp-IsAntisymmetric}
+use Rattle.name_store.proofs.Words.{cond_some, length-keys_of, AllByRecursion, position_or_len, lookup, keys_of, option_map, ltb-true, length-map, buffer, keep_last, shift_remove_entry, Ring, find_array, is_in_use, without, unbound, Holds, IsSound, LiesAt, IsUndoable, users_at, users_in, found_at, pins, all_pins, Names, names_before, past_buffers, past_buffer, bytes_before, array_at, named_array, slot_at, state_of, present, Change, Unbind, Entry, Slot, stand, nat_cmp_total, retain_keys, get-retain_keys, same_map, nat_cmp-IsAntisymmetric}
 use Rattle.name_store.proofs.NameLaws.{TestsName, find-lookup, without-remove, all-lookup, all-remove, insert-removed, used-back-without}
 use Rattle.name_store.proofs.Needs.{is_needed, made-held, kept-counted, number_of, users-without}
 use Rattle.name_store.proofs.PastLaws.{Restored, content_before, Slots}
@@ -8,18 +8,10 @@ use Rattle.name_store.proofs.SlotLaws.{get-past, get-buffers}
 use Rattle.name_store.proofs.StateLaws.{Freed}
 use Rattle.name_store.proofs.KeepLaws.{keep-sound, keep-state}
 
-some-cond : (t : Bool) (n m : ℕ) → Some n ≡ cond t (Some m) None → (t ≡ true) × (n ≡ m)
-some-cond true n m h = (refl, cc)
-some-cond false n m h = let no : ⊥ = cc in absurd no
-
 pub placed : (test : List ℕ → Bool) (keys : List (List ℕ)) (n : ℕ) → Some n ≡ position test keys → (n ≡ position_or_len test keys) × (n < length keys)
 placed test keys n h =
-    let p = some-cond (nat_lt (position_or_len test keys) (length keys)) n (position_or_len test keys) h in
-    (p.1, omega (arith, p.1, ltb-true (position_or_len test keys) (length keys) p.0))
-
-keys-length : (es : List (List ℕ × Entry)) → length (keys_of es) ≡ length es
-keys-length [] = refl
-keys-length (e ∷ es) = ap suc (keys-length es)
+    let p = cond_some (nat_lt (position_or_len test keys) (length keys)) (position_or_len test keys) n (sym h) in
+    (sym p.1, omega (arith, p.1, ltb-true (position_or_len test keys) (length keys) p.0))
 
 pub same-content : (c : Change) (q : ℕ) (o : Option Slot) → ((bytes : List ℕ) → bytes_before c q bytes ≡ bytes) → option_map (content_before c q) o ≡ option_map stand o
 same-content c q None same = refl
@@ -72,7 +64,7 @@ module _ (es : List (List ℕ × Entry)) (slots : Slots) (ring : Ring Change) (s
   own : IsUndoable c names' slots
   own = (
     all-lookup (λ x. LiesAt (slot_at slots x.number) x) test es e sound.holds.lie was,
-    omega (arith, spot.1, keys-length es, len, length-map es' named_array),
+    omega (arith, spot.1, length-keys_of es, len, length-map es' named_array),
     find-lookup test key is es' ∙ ap (option_map array_at) gone,
   )
 

@@ -1,6 +1,6 @@
 -- Names from std, from the crates below and from `specs/`, which the proofs use.
 pub use Rattle.indexmap.proofs.MoveLemmas.{push_moved}
-pub use Rattle.name_store.specs.ArrayLaws.{offset-at, places-offsets}
+pub use Rattle.name_store.specs.ArrayLaws.{found-array, offset-at, places-offsets}
 pub use Rattle.name_store.specs.Arrays.{addresses, bound_view, buffer_of, descr_of, find_array, has_kept, has_room_for, is_bound, is_in_use, keeping, no_buffer, placed_item, put_array, read, share_cells, span_of, unbound, undone, without, write, written}
 pub use Rattle.name_store.specs.Calls.{AnswersWrite, Binds, Counts, CountsUndo, CountsWrite, IsUnused, own_array, own_buffer}
 pub use Rattle.name_store.specs.Invariants.{AreUndoable, GoBack, GoBackAt, Holds, IsSound, IsUndoable, LiesAt, LiesIn, all_pins, found_at, held_number, one_at, pins, users_at, users_in, users_of}
@@ -49,14 +49,14 @@ pub use Rattle.std.proofs.lemmas.List.{append-nil, drop-append-le, drop-drop, dr
 pub use Rattle.std.proofs.lemmas.List.Elements.{All-contains, All-from_recursion, All-head, All-replicate, All-rest, All-tail, Contains-get_or, recursion_from_All}
 pub use Rattle.std.proofs.lemmas.List.Folds.{list_any-append}
 pub use Rattle.std.proofs.lemmas.List.Sorted.{All-permutation, Contains-permutation, length_permutation}
-pub use Rattle.std.proofs.lemmas.Option.{IfSome_then, none-some, same_Some}
+pub use Rattle.std.proofs.lemmas.Map.Entries.{length-keys_of}
+pub use Rattle.std.proofs.lemmas.Option.{IfSome_then, cond_some, none-some, same_Some}
 pub use Rattle.std.proofs.lemmas.Result.{IfErr-weaker, IfOk-at_ok, IfOk-weaker, err_from_is_err_and}
 pub use Rattle.std.proofs.lemmas.Slice.Eq.{bytes_eq-Decides, slice_eq-Decides}
-pub use Rattle.std.specs.Cmp.{eq_by_cmp_equiv, nat_cmp_total, nat_eq_equiv}
+pub use Rattle.std.specs.Cmp.{nat_cmp_total, nat_eq_equiv, unsigned_tied}
 pub use Rattle.std.specs.FinMap.{find, get-empty, get-from_entries, get-insert, get-retain_keys, nat_cmp-IsAntisymmetric, same_map}
 pub use Rattle.std.specs.List.{flat_map, position_or_len}
 pub use Rattle.std.specs.Map.{keys_of, lookup}
 pub use Rattle.std.specs.Option.{option_copied, option_copied_mut}
-pub use Rattle.std.specs.Ordering.{eq_by_cmp, is_eq}
+pub use Rattle.std.specs.Ordering.{eq_by_cmp}
 pub use Rattle.std.specs.Result.{is_ok}
-pub use Rattle.std.specs.declared.cmp.Ordering.TheVariants.{Equal, Greater, Less}

@@ -1,13 +1,13 @@
 -- Writing items to places of a name's array, and reading items.
 use Rattle.std.proofs.Common.{◌≡◌, ◌*◌, ◌<◌, ◌≤◌, ℕ, Bool, true, false, List, [], ◌∷◌, length, map, refl, sym, ap, subst, ◌∙◌, cond, Option, Some, None, is_some, nat_eq, All, arith}
-use Rattle.name_store.proofs.Words.{Contains, get, get-insert, same_map, nat_cmp-IsAntisymmetric, nat_cmp_total, AllByRecursion, lookup, option_map, eqb-true, All-contains, All-head, All-tail, All-from_recursion, same_Some, items_in, item_size, decode_item, Layout, offsets, Fits, offsets_of, with_items, places_of, State, Array, Buffer, find_array, buffer_of, descr_of, span_of, addresses, write, written, is_in_use, is_bound, Holds, LiesAt, LiesIn, descr_at, start_at, span_at, target_offsets, FitsBuffer, LeadsTo, IsHome, HasNew, array_at, named_array, buffer_in, slot_at, present, Entry, Slot, Target}
+use Rattle.name_store.proofs.Words.{unsigned_tied, Contains, get, get-insert, same_map, nat_cmp-IsAntisymmetric, nat_cmp_total, AllByRecursion, lookup, option_map, eqb-true, All-contains, All-head, All-tail, All-from_recursion, same_Some, items_in, item_size, decode_item, Layout, offsets, Fits, offsets_of, with_items, places_of, State, Array, Buffer, find_array, buffer_of, descr_of, span_of, addresses, write, written, is_in_use, is_bound, Holds, LiesAt, LiesIn, descr_at, start_at, span_at, target_offsets, FitsBuffer, LeadsTo, IsHome, HasNew, array_at, named_array, buffer_in, slot_at, present, Entry, Slot, Target}
 use Rattle.std.specs.FinMap.{insert}
 use Rattle.name_store.proofs.BlockLaws.{length-items_in}
 use Rattle.name_store.proofs.PartLaws.{part-some}
 use Rattle.name_store.proofs.LaidLaws.{laid-same, places-within}
 use Rattle.name_store.proofs.PutLaws.{with_items-items}
 use Rattle.name_store.proofs.NameLaws.{TestsName, all-both, found-used}
-use Rattle.name_store.proofs.SlotLaws.{get-buffers, tests_agree}
+use Rattle.name_store.proofs.SlotLaws.{get-buffers}
 use Rattle.name_store.proofs.StateLaws.{none-found}
 use Rattle.name_store.proofs.ShowLaws.{buffer-found}
 use Rattle.name_store.proofs.PastLaws.{Slots}
@@ -153,6 +153,6 @@ module _ (es : List (List ℕ × Entry)) (slots : Slots) (name : List ℕ) (numb
               ∙ ap (λ o. cond (is_in_use (map named_array es) q) o None) (ap (option_map buffer_in) (new.set q) ∙ with_one (nat_eq q number) (slot_at slots q))
               ∙ there-too q
               ∙ ap (λ o. cond (nat_eq q number) (Some (buffer_in s')) o) (sym (get-buffers es slots q))
-              ∙ ap (λ t. cond t (Some (buffer_in s')) (get state.buffers q)) (sym (tests_agree q number))
+              ∙ ap (λ t. cond t (Some (buffer_in s')) (get state.buffers q)) (sym (unsigned_tied q number))
               ∙ sym (get-insert nat_cmp_total state.buffers number (buffer_in s') q))
               ∙ λ i. insert state.buffers (number-is i) (sym new-is i)

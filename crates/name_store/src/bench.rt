@@ -159,6 +159,7 @@ impl Bench {
     }
 
     /// How many bytes of old items are kept for the k-th kept state, counted from 0, oldest first.
+    /// No command asks this: it is for programs that bound the memory of a bench.
     pub fn patch_bytes(&self, k: usize) -> Option<usize>
         ensures { result ≡ slice_get self.now.patches k }
     {
@@ -174,22 +175,21 @@ impl Bench {
         ensures answers { AnswersShares self.now.state left.now right.now result }
         ensures no_memory { LieInTwo self.now.state left.now right.now → IsOk result }
     {
-        let Some(first) = self.table.names.get(left) else {
+        let Some(first) = self.get(left) else {
             return Err(Refusal::UnknownName);
         };
-        let Some(second) = self.table.names.get(right) else {
+        let Some(second) = self.get(right) else {
             return Err(Refusal::UnknownName);
         };
         if first.number != second.number {
             return Ok(false);
         }
-        let whole = &self.table.slots.slot(first.number).descr;
         let has_common = share_cell(
             self.alloc,
-            &first.layout,
-            first.path.descr_in(whole).size(),
-            &second.layout,
-            second.path.descr_in(whole).size(),
+            first.layout,
+            first.descr.size(),
+            second.layout,
+            second.descr.size(),
         )?;
         Ok(has_common)
     }

@@ -56,7 +56,7 @@ impl<D: Disk> FolderStore<D> {
         }
     }
 
-    /// Takes the disk out of the store.
+    /// Takes the disk out of the store: for tests, which look at what a save or a crash left there.
     pub fn into_disk(self) -> D
         ensures { result ≡ self.disk }
     {

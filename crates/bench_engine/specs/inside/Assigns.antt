@@ -1,10 +1,8 @@
 -- Items that are written to a name's array, and where they come from.
 use Rattle.std.specs.Prelude.{◌≡◌, ◌≤◌, ◌*◌, ◌⊎◌, ℕ, Bool, true, false, List, length, map, Option, Some, Result, Ok, Err, All}
-use Rattle.bench_engine.specs.Words.{Contains, Refusal, OutOfMemory, NoSuchCast, Descr, item_size, AreAlike, item_from, LeafValue, Layout, offsets, max_bytes, count, IsViewOf, IsPlanOf, KeepsNested, Items, Owned, can_cast, cast_item, stretched_into, State, addresses, descr_of, read, FitsBuffer, LeadsTo, MayWrite, target_offsets, target_shape, ArrayRef, Bound, Source, Target, View, Array}
-use Rattle.name_store.specs.declared.bound.Bound.TheVariants as bound
+use Rattle.bench_engine.specs.Words.{Contains, Refusal, OutOfMemory, NoSuchCast, Descr, item_size, AreAlike, item_from, LeafValue, Layout, offsets, max_bytes, count, IsViewOf, IsPlanOf, KeepsNested, Items, Owned, can_cast, cast_item, stretched_into, State, addresses, descr_of, read, FitsBuffer, LeadsTo, MayWrite, target_offsets, target_shape, ArrayRef, Source, Target, View, Array}
 use Rattle.name_store.specs.declared.target.Source.TheVariants as source
 use Rattle.name_store.specs.declared.target.Target.TheVariants as target
-use Rattle.bench_engine.specs.Machine.{viewed}
 use Rattle.bench_engine.specs.inside.OwnContents.{IsInCOrder}
 
 -- an owned array has the element type, the shape and the items of an array of the state, in C order

@@ -1,9 +1,9 @@
 use Rattle.std.proofs.Common.{◌≡◌, ◌++◌, take, inl, inr, map, refl}
-use Rattle.bench_engine.proofs.Words.{err_from_is_err_and, Read, trimmed}
+use Rattle.bench_engine.proofs.Words.{Consumes-kept, Consumes-trans, err_from_is_err_and, Read, trimmed}
 use Rattle.bench_engine.proofs.Lines.{lines-end, whole_lines-on}
 use Rattle.bench_engine.proofs.Feeding.{told-on, fed-on, cut-on}
 use Rattle.bench_engine.proofs.Whole.{first-lines}
-use Rattle.bench_engine.proofs.Known.{consumes_kept, consumes_nothing, consumes_then}
+use Rattle.bench_engine.proofs.Known.{consumes_nothing}
 use Rattle.bench_engine.proofs.runner.take_turn.Goals as goal
 
 pub returns-in_err-count-clause-turned : goal.returns-in_err-count-clause-turned
@@ -17,7 +17,7 @@ returns-in_err-count-clause-turned g c depth before reading =
       lines = map trimmed reading.fed.pieces;
       replies = reading.fed.told.replies;
       state = c.args.session.now.bench.state;
-      read = consumes_kept _ _ _ reading.input reading.read kept;
+      read = Consumes-kept _ _ _ reading.input reading.read kept;
       are_lines = (reading.fed.pieces, reading.fed.rest, reading.fed.splits, refl);
       run = reading.fed.told.run;
       sent = reading.fed.told.sent;
@@ -53,7 +53,7 @@ returns-in_err-feed-clause-turned g c depth before reading =
     let cut = c.in_err-feed.ensures.told reading.fed.rest reading.fed.splits.rest_unbroken reading.fed.held in
     let bytes = rw c.in_ok-count.ensures.ok_part at c.read_some.ensures.bytes in
     rw (p.1, p.2) (first-lines depth before _ (reading.input ++ piece) (map trimmed reading.fed.pieces ++ cut.0)
-    (consumes_then _ _ _ reading.input _ reading.read bytes.1)
+    (Consumes-trans _ _ _ reading.input _ reading.read bytes.1)
     (inl (whole_lines-on reading.input piece reading.fed.pieces reading.fed.rest cut.0 reading.fed.splits cut.1))
     (cut-on _ _ _ _ _ _ _ _ c.args.session.now (map trimmed reading.fed.pieces) cut.0 reading.fed.told cut.2))
 
@@ -62,7 +62,7 @@ returns-clause-turned g c depth before reading =
     let bytes = rw c.in_ok-count.ensures.ok_part at c.read_some.ensures.bytes in
     record {
       input = reading.input ++ take c.in_ok-count.count c.read_some.new.chunk;
-      read = consumes_then _ _ _ reading.input _ reading.read bytes.1;
+      read = Consumes-trans _ _ _ reading.input _ reading.read bytes.1;
       fed = fed-on _ _ _ _ _ _ _ _ c.args.session.now _ reading.input (take c.in_ok-count.count c.read_some.new.chunk) reading.fed
           (c.in_ok-feed.ensures.told reading.fed.rest reading.fed.splits.rest_unbroken reading.fed.held);
     }
