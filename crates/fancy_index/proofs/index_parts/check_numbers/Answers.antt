@@ -1,4 +1,4 @@
-use Rattle.std.proofs.Common.{◌≡◌, ◌⊎◌, inl, inr, Ok, Err, if◌then◌else◌, Bool, true, false, List, map, sym, ap, subst, ◌∙◌}
+use Rattle.std.proofs.Common.{◌≡◌, ◌⊎◌, inl, inr, Ok, Err, if◌then◌else◌, Bool, true, false, map, sym, ap, subst, ◌∙◌}
 use Rattle.fancy_index.proofs.Words.{is_ok, list_all, false≢true, err_from_is_err_and, is_place, Refusal, IndexOutOfRange, OutOfMemory, IsOutside, are_named, is_named, numbers_in, place_of}
 use Rattle.fancy_index.proofs.PartLaws.{outside-at}
 use Rattle.fancy_index.proofs.index_parts.check_numbers.Goals as goal
@@ -17,4 +17,4 @@ returns-in_err-places c =
     let test : is_named c.part-item.result ≡ list_all (is_place n) (numbers_in array) = ap is_named c.in-Points.is ∙ ap are_named c.in-Named.is in
     let p = err_from_is_err_and c.from_residual.result c.from_residual.ensures.1 in
     rw (p.1, p.2) (outside-at c.args.parts.now it.part-index _ e c.loop-part-test.true (sym c.part-item.is)
-        (subst (λ t. IsOutside t e) (sym test) (outside-of (map (place_of n) (numbers_in array)) (list_all (is_place n) (numbers_in array)) e c.in_err-places.ensures)))
+    (subst (λ t. IsOutside t e) (sym test) (outside-of (map (place_of n) (numbers_in array)) (list_all (is_place n) (numbers_in array)) e c.in_err-places.ensures)))

@@ -1,4 +1,4 @@
-use Rattle.std.proofs.Common.{rules, w64, to_z, ◌≡◌, sym, ap, ◌∙◌, pos}
+use Rattle.std.proofs.Common.{rules, w64, to_z, sym, ap, ◌∙◌}
 use Rattle.fancy_index.proofs.Words.{to_z-of_z, SFits}
 use Rattle.fancy_index.proofs.masks.note_block.Goals as goal
 

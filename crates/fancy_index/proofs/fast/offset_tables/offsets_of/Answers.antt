@@ -1,6 +1,6 @@
-use Rattle.std.proofs.Common.{◌+◌, ◌≤◌, ◌++◌, [], ◌∷◌, All, sym, ap, subst, ◌∙◌, arith, append_assoc}
+use Rattle.std.proofs.Common.{◌+◌, ◌≤◌, ◌++◌, [], ◌∷◌, All, sym, subst, ◌∙◌, arith, append_assoc}
 use Rattle.std.proofs.lemmas.List.Elements.{All-append}
-use Rattle.fancy_index.proofs.Words.{All-cons, All-nil, All-rest, max_bytes}
+use Rattle.fancy_index.proofs.Words.{All-cons, All-rest, max_bytes}
 use Rattle.fancy_index.proofs.fast.offset_tables.offsets_of.Goals as goal
 
 pub loop-offset-init : goal.loop-offset-init

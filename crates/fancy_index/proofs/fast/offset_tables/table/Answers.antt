@@ -1,5 +1,5 @@
-use Rattle.std.proofs.Common.{◌≡◌, ◌<◌, ◌≤◌, ◌+◌, ◌*◌, ℕ, take, drop, length, get_or, sym, ap, subst, ◌∙◌, arith, one-mul, mul-one, mul-le-mul_left}
-use Rattle.fancy_index.proofs.Words.{BeginAt, strides_along, count, length-offsets, max_items, offsets, factors_pos}
+use Rattle.std.proofs.Common.{◌≡◌, ◌<◌, ◌+◌, ◌*◌, take, drop, length, get_or, sym, ap, subst, ◌∙◌, arith, mul-one, mul-le-mul_left}
+use Rattle.fancy_index.proofs.Words.{BeginAt, strides_along, count, length-offsets, offsets, factors_pos}
 use Rattle.fancy_index.proofs.CutLaws.{begins-before, begins-behind, strides-before, strides-behind}
 use Rattle.fancy_index.proofs.TableLaws.{counted, start-small, summed}
 use Rattle.fancy_index.proofs.fast.offset_tables.table.Goals as goal

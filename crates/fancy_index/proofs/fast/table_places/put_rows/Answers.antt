@@ -1,4 +1,4 @@
-use Rattle.std.proofs.Common.{◌≡◌, ◌+◌, ◌/◌, ◌<◌, ◌∙◌, length, sym, arith}
+use Rattle.std.proofs.Common.{◌/◌, ◌<◌, ◌∙◌, length, sym, arith}
 use Rattle.std.proofs.Math.Nat.{add-mod_right}
 use Rattle.fancy_index.proofs.Words.{cases_lt, mod-eq_of_lt}
 use Rattle.fancy_index.specs.inside.Items.{numbers_in}

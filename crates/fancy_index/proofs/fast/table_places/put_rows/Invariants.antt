@@ -1,4 +1,4 @@
-use Rattle.std.proofs.Common.{◌≡◌, ◌-◌, ◌/◌, ◌%◌, ◌<◌, ℕ, length}
+use Rattle.std.proofs.Common.{◌≡◌, ◌-◌, ◌/◌, ◌%◌, ◌<◌, length}
 use Rattle.fancy_index.specs.inside.Items.{numbers_in}
 use Rattle.fancy_index.specs.inside.Tables.{AreRead, InRows}
 use Rattle.fancy_index.proofs.fast.table_places.put_rows.Given as goal
