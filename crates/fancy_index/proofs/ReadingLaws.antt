@@ -1,8 +1,8 @@
 -- The integers of an array at the offsets of a table.
-use Rattle.std.proofs.Common.{◌≡◌, ◌⊎◌, inl, inr, ℕ, ◌+◌, ◌-◌, ◌*◌, ◌/◌, ◌%◌, ◌<◌, ◌≤◌, List, map, length, get_or, take, drop, sym, ap, subst, ◌∙◌, arith, mul-le-mul_right, pos}
+use Rattle.std.proofs.Common.{◌≡◌, ◌⊎◌, inl, inr, ℕ, ◌+◌, ◌-◌, ◌*◌, ◌/◌, ◌%◌, ◌<◌, ◌≤◌, List, length, get_or, take, drop, sym, ap, subst, ◌∙◌, arith, mul-le-mul_right, pos}
 use Rattle.std.proofs.lemmas.Nat.{mul-add-lt}
 use Rattle.fancy_index.proofs.Words.{get_or-map, get_or-take, get_or-drop, get_or_default, length-map, mid_len, mod-lt, cases_lt, div-add-mod', item_at, offsets, number_from, word, Form}
-use Rattle.fancy_index.specs.declared.offset_tables.OffsetTable.{OffsetTable}
+use Rattle.fancy_index.specs.declared.fast.offset_tables.OffsetTable.{OffsetTable}
 use Rattle.fancy_index.specs.declared.index_arrays.Named.{Named}
 use Rattle.fancy_index.specs.inside.Items.{numbers_in}
 use Rattle.fancy_index.specs.inside.Tables.{InCells, InRows}

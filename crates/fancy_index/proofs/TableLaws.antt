@@ -1,10 +1,10 @@
 -- Integers that are read by a table of offsets.
-use Rattle.std.proofs.Common.{◌≡◌, ◌⊎◌, inl, inr, ℕ, suc, ◌+◌, ◌-◌, ◌*◌, ◌/◌, ◌%◌, ◌<◌, ◌≤◌, Bool, true, false, ◌&&◌, List, [], ◌∷◌, ◌++◌, map, length, get_or, take, drop, All, refl, sym, ap, subst, ◌∙◌, arith, length-take-le, mul-le-mul_right, ℤ, pos, ◌+ℤ◌, ◌≤ℤ◌}
+use Rattle.std.proofs.Common.{◌≡◌, ◌⊎◌, inl, inr, ℕ, ◌+◌, ◌-◌, ◌*◌, ◌/◌, ◌%◌, ◌<◌, ◌≤◌, Bool, true, false, ◌&&◌, List, [], ◌∷◌, ◌++◌, map, length, get_or, take, drop, refl, sym, ap, subst, ◌∙◌, arith, length-take-le, mul-le-mul_right, ℤ, pos, ◌+ℤ◌, ◌≤ℤ◌}
 use Rattle.std.proofs.lemmas.Bool.{false_from_ne_true}
 use Rattle.std.proofs.lemmas.List.Sums.{AllPass-from_list_all, list_all-from_AllPass}
 use Rattle.std.proofs.lemmas.Slice.{take-put_mid_below, drop-put_mid}
 use borrow.Rule.Slice.PartMut.{put_mid}
-use Rattle.fancy_index.proofs.Words.{list_all, and_parts, cases_lt, get_or-map, get_or-take, get_or-drop, get_or-append_right, get_or_append_left, length-map, take-put_mid, get_or_default, same_lists, ints, div-add-mod', false≢true, take-append-drop, is_place, place_of, ArePlaces, Layout, count, rank, IsIndex, index_at, address, address_at, offsets, count-append, IsIndex-first, zero_filled, dot-zeros, max_bytes, +ℤ_idr, pos-offset}
+use Rattle.fancy_index.proofs.Words.{list_all, and_parts, cases_lt, get_or-map, get_or-take, get_or-drop, get_or-append_right, length-map, take-put_mid, get_or_default, same_lists, ints, div-add-mod', false≢true, take-append-drop, is_place, place_of, ArePlaces, Layout, count, rank, IsIndex, index_at, address, address_at, offsets, count-append, IsIndex-first, zero_filled, dot-zeros, max_bytes, +ℤ_idr, pos-offset}
 use Rattle.fancy_index.proofs.CutLaws.{IsIndex-whole, address-both}
 use Rattle.fancy_index.specs.inside.Tables.{AreRead, InCells}
 

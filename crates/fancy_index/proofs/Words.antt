@@ -15,15 +15,15 @@ pub use Rattle.fancy_index.specs.declared.index_parts.IndexPart.{IndexPart}
 pub use Rattle.fancy_index.specs.declared.index_parts.IndexPart.TheVariants.{Axis as AxisPart, Between as BetweenPart, Points as PointsPart}
 pub use Rattle.fancy_index.specs.declared.kinds.Kind.{Kind}
 pub use Rattle.fancy_index.specs.declared.kinds.Kind.TheVariants.{Integers, Mask}
-pub use Rattle.fancy_index.specs.declared.masks.Bools.{Bools}
-pub use Rattle.fancy_index.specs.declared.masks.RunAt.{RunAt}
-pub use Rattle.fancy_index.specs.declared.masks.TheConstants.{COUNTS, PLACES}
+pub use Rattle.fancy_index.specs.declared.bools.Bools.{Bools}
+pub use Rattle.fancy_index.specs.declared.rank_offsets.RunAt.{RunAt}
+pub use Rattle.fancy_index.specs.declared.fast.adjacent_bools.TheConstants.{COUNTS, PLACES}
 pub use Rattle.fancy_index.specs.declared.plan_rows.Shifted.{Shifted}
 pub use Rattle.fancy_index.specs.declared.points.PointList.{PointList}
 pub use Rattle.fancy_index.specs.declared.integers.Form.{Form}
 pub use Rattle.fancy_index.specs.declared.result_axes.Stretch.{Stretch}
 pub use Rattle.fancy_index.specs.declared.result_axes.Stretch.TheVariants.{After, Among, Before}
-pub use Rattle.fancy_index.specs.declared.short_rows.ShortRows.{ShortRows}
+pub use Rattle.fancy_index.specs.declared.fast.short_rows.ShortRows.{ShortRows}
 pub use Rattle.fancy_index.specs.inside.Bools.{AreAll, AreBits, LieInBytes, bits, bool_at, bools_in, ranks_from, true_count}
 pub use Rattle.fancy_index.specs.inside.Items.{IsOutside, IsWithin, numbers_in}
 pub use Rattle.fancy_index.specs.inside.Kept.{AreWide, CanAppend, CanScatter, HaveAppended, end_of, first_offsets, moved_offsets, offsets_from, put_packed, row_at, shifted_offsets, short_offsets}

@@ -3,9 +3,10 @@
 ghost use Rattle.std.specs.Prelude.{length};
 ghost use Rattle.fancy_index.specs.Clauses.{CanPush, CanPut, FitAt, HaveFilled, HavePushed, HavePut, moved_offsets, offsets_from, shifted_offsets};
 
+use crate::fast::short_rows::ShortRows;
+use crate::fast::singles::{fill_singles, push_singles, scatter_singles};
+use crate::item_sources::{PackedItems, Source};
 use crate::plan_rows::{MovedLayout, PlanAxes, Shifted, fill_run, moved, moved_run};
-use crate::short_rows::ShortRows;
-use crate::singles::{PackedItems, Source, fill_singles, push_singles, scatter_singles};
 use arrays::{copy_run, packed_run, push_run};
 use raw_block::{BlockBuilder, RawBlock};
 use shape_strides::{Runs, Walk};

@@ -2,7 +2,7 @@
 ghost use Rattle.std.specs.Prelude.{All, IfErr, IfOk, OnOk, false, length, map, true, ◌≡◌, ◌≤◌};
 ghost use Rattle.fancy_index.specs.Clauses.{are_within, covers, is_index, is_within, item_axes, Between, parts, parts_of, wholes, index_item_of, has_step, is_ellipsis, max_items, IsOutside, IsWithin, items_left, AddsParts, AreParts, IsChecked, all_named, shown_part};
 
-use crate::lists::Left;
+use crate::lists::{Left, have_one_array};
 use crate::points::{PointList, Ranks, array_points, integer_point};
 use crate::positions::places;
 use arrays::Items;
@@ -29,13 +29,14 @@ fn push_wholes(parts: &mut Vec<IndexPart<'_>>, axes: &[usize]) -> Result<(), All
     Ok(())
 }
 
-/// Adds the parts of an item, given the axes that it takes, or refuses one of its numbers. An array
-/// of integers is not read yet.
+/// Adds the parts of an item, given the axes that it takes and whether no other item is an array, or
+/// refuses one of its numbers. An array of integers is not read yet.
 fn push_parts<'a>(
     alloc: Global,
     parts: &mut Vec<IndexPart<'a>>,
     axes: &[usize],
     item: IndexItem<Items<'a>>,
+    is_alone: bool,
 ) -> Result<(), Refusal>
     requires small { All (λ n. n ≤ max_items) axes.now }
     requires index { is_index (index_item_of item) ≡ true }
@@ -63,7 +64,7 @@ fn push_parts<'a>(
         }
         IndexItem::NewAxis => Ok(parts.push(IndexPart::Axis(AxisPick::New))?),
         IndexItem::Array(array) => {
-            let points = array_points(alloc, axes, array)?;
+            let points = array_points(alloc, axes, array, is_alone)?;
             Ok(parts.push(IndexPart::Points(points))?)
         }
     }
@@ -83,9 +84,10 @@ pub(crate) fn parts_of<'a>(alloc: Global, left: Left<'a>) -> Result<Vec<IndexPar
         (IsOutside (are_within left.entry.axes.now (items_left left.entry))) }
 {
     let mut parts = Vec::new(alloc);
+    let is_alone = have_one_array(left.items);
     let mut left = left;
     while let Some((item, axes)) = left.next() {
-        push_parts(alloc, &mut parts, axes, item)?;
+        push_parts(alloc, &mut parts, axes, item, is_alone)?;
     }
     push_parts(alloc, &mut parts, left.axes, IndexItem::Ellipsis)?;
     Ok(parts)
@@ -97,9 +99,9 @@ pub(crate) fn check_numbers(alloc: Global, parts: &[IndexPart<'_>]) -> Result<()
 {
     for part in parts {
         if let IndexPart::Points(points) = part
-            && let Ranks::Named(named) = points.ranks
+            && let Ranks::Named(named) = &points.ranks
         {
-            places(alloc, named)?;
+            places(alloc, *named)?;
         }
     }
     Ok(())

@@ -5,7 +5,7 @@ ghost use Rattle.fancy_index.specs.inside.Words.{word, words_along, LiesIn, IsPl
 
 use byteorder::{BigEndian, ByteOrder, LittleEndian};
 use elem_descr::Order;
-use raw_block::{RunI32, RunI64, array_at};
+use raw_block::array_at;
 use shape_strides::Run;
 
 /// The form in which an integer is stored.
@@ -19,7 +19,7 @@ pub(crate) struct Form {
 /// Whether a signed number is in range for an axis of `n` items, and if so, the index that it
 /// stands for. There is no branch: as an unsigned number, a negative one is not less than `n`.
 #[inline(always)]
-fn signed_place(n: usize, at: i64) -> (bool, u32)
+pub(crate) fn signed_place(n: usize, at: i64) -> (bool, u32)
     requires { n ≤ max_items }
     ensures { IsPlaceOf n at result }
 {
@@ -64,26 +64,6 @@ pub(crate) trait Integral: Drop {
         requires within { k < length (numbers self.now) }
         requires small { n ≤ max_items }
         ensures { IsPlaceOf n (get_or (numbers self.now) k (pos 0)) result };
-}
-
-impl Integral for RunI32<'_> {
-    ghost numbers = { λ run. run };
-
-    #[inline(always)]
-    fn place(&self, k: usize, n: usize) -> (bool, u32) {
-        let at = self.get(k);
-        let place = (at + if at < 0 { n as i32 } else { 0 }).cast_unsigned();
-        (place < n as u32, place)
-    }
-}
-
-impl Integral for RunI64<'_> {
-    ghost numbers = { λ run. run };
-
-    #[inline(always)]
-    fn place(&self, k: usize, n: usize) -> (bool, u32) {
-        signed_place(n, self.get(k))
-    }
 }
 
 /// The integers of `N` bytes in a run of items.

@@ -44,6 +44,20 @@ pub(crate) fn axes_beside(items: &[IndexItem<Items<'_>>], axes: usize) -> Option
     Some(left)
 }
 
+/// Whether at most one of the items is an array.
+pub(crate) fn have_one_array(items: &[IndexItem<Items<'_>>]) -> bool {
+    let mut found = false;
+    for item in items {
+        if let IndexItem::Array(_) = item {
+            if found {
+                return false;
+            }
+            found = true;
+        }
+    }
+    true
+}
+
 /// How many of the remaining axes an item takes: `...` takes those that the items after it leave.
 fn width(left: usize, item: IndexItem<Items<'_>>, later: &[IndexItem<Items<'_>>]) -> usize
     requires { item_axes (index_item_of item) + axes_taken later.now ≤ left }

@@ -1,195 +1,24 @@
-//! Masks: how many of their items are true, the ranks of these, and the offsets of these ranks.
-ghost use Rattle.std.specs.Prelude.{All, IfOk, IfSome, IsTrue, List, OnOk, [], drop, get_or, length, pos, replicate, slice_index, take, ℕ, ◌++◌, ◌+◌, ◌<◌, ◌∷◌, ◌≡◌, ◌≤◌, ◌*ℤ◌, ◌/◌, ◌%◌, ◌^◌};
-ghost use Rattle.fancy_index.specs.Clauses.{LieWithin, count, items, max_bytes, max_items, offsets, owned_items, run_offsets, truth, Mask, AreAll, AreNoted, IsBlock, LieInBytes, bits, bools_in, ranks_from, true_count, kind_in, numbers_in, true_ranks, IsAtRun, led};
+//! Masks: how many of their items are true, and the ranks of these.
+ghost use Rattle.std.specs.Prelude.{IfOk, IfSome, OnOk, length, ◌++◌, ◌+◌, ◌<◌, ◌≡◌};
+ghost use Rattle.fancy_index.specs.Clauses.{items, owned_items, Mask, AreNoted, IsBlock, LieInBytes, bools_in, true_count, kind_in, numbers_in, true_ranks};
 
-use crate::index_arrays::BoolMask;
+use crate::bools::{Bools, count_run, note_true};
+use crate::fast::adjacent_bools::note_adjacent;
 use arrays::{Items, Owned, copy};
 use elem_descr::MemoryOrder;
-use raw_block::array_at;
-use shape_strides::{Layout, Run, Runs};
+use shape_strides::Runs;
 use std::alloc::{AllocError, Global};
-use std::simd::prelude::*;
 
-/// The bools of a run, and the rank of the first one.
-#[derive(Clone, Copy)]
-pub(crate) struct Bools<'a> {
-    pub bytes: &'a [u8],
-    pub run: Run,
-    pub rank: usize,
-}
-
-/// 1 for true, and 0 for false.
-#[inline(always)]
-fn truth(byte: u8) -> usize
-    ensures value { result ≡ truth byte }
-    ensures few { result ≤ 1 }
-{
-    (byte != 0) as usize
-}
-
-/// Writes the ranks of the true bools in a range after the first `many` ranks, and returns how many
-/// there are then. Each rank is written, and stays if its bool is true, so there is no branch.
-fn note_true(
-    found: &mut [u32; 512],
-    many: usize,
-    bools: Bools<'_>,
-    from: usize,
-    end: usize,
-) -> usize
-    requires lie { LieInBytes bools }
-    requires end { end ≤ bools.run.count }
-    requires few { many + end ≤ from + 512 }
-    requires order { from ≤ end }
-    ensures many { result + from ≤ many + end }
-    ensures found { (whole : List ℕ) → take many found.old ++ ranks_from bools.entry from ≡ whole
-        → take result found.new ++ ranks_from bools.entry end ≡ whole }
-{
-    let mut many = many;
-    for k in from..end {
-        found[many] = (bools.rank + k) as u32;
-        many += truth(bools.bytes[bools.run.offset_after(k)]);
-    }
-    many
-}
-
-/// The places of the true ones among four bools, and then zeros. The row of four bools is the
-/// number that has them as its bits, the first one as the lowest. A constant would be copied at
-/// each use.
-static PLACES: [[u8; 4]; 16] = [
-    [0, 0, 0, 0],
-    [0, 0, 0, 0],
-    [1, 0, 0, 0],
-    [0, 1, 0, 0],
-    [2, 0, 0, 0],
-    [0, 2, 0, 0],
-    [1, 2, 0, 0],
-    [0, 1, 2, 0],
-    [3, 0, 0, 0],
-    [0, 3, 0, 0],
-    [1, 3, 0, 0],
-    [0, 1, 3, 0],
-    [2, 3, 0, 0],
-    [0, 2, 3, 0],
-    [1, 2, 3, 0],
-    [0, 1, 2, 3],
-];
-
-/// How many of the four bools of a row are true.
-static COUNTS: [usize; 16] = [0, 1, 1, 2, 1, 2, 2, 3, 1, 2, 2, 3, 2, 3, 3, 4];
-
-/// The number that has sixteen bools as its bits, the first one as the lowest.
-#[inline(always)]
-fn bits_of(bools: u8x16) -> usize
-    ensures { (k : ℕ) → k < 16 → result / 2 ^ k % 2 ≡ truth (get_or bools k 0) }
-{
-    bools.simd_ne(u8x16::splat(0)).to_bitmask() as usize
-}
-
-/// Writes the ranks of the true bools of a row after the first `many` ranks, and returns how many
-/// there are then. Each lane of `first` is the rank of the first bool. Four ranks are written, and
-/// those of true bools stay, so there is no branch.
-#[inline(always)]
-fn note_four(found: &mut [u32], many: usize, row: usize, first: u32x4) -> usize
-    requires few { many + 4 ≤ length found.old }
-    requires row { row < 16 }
-    ensures many { result ≤ many + 4 }
-    ensures found { (rank : ℕ) → first ≡ replicate 4 rank → rank + 4 ≤ max_items
-        → take result found.new ≡ take many found.old ++ true_ranks rank (bits 4 row) }
-{
-    let ranks = u8x4::from_array(PLACES[row]).cast::<u32>() + first;
-    ranks.copy_to_slice(&mut found[many..]);
-    many + COUNTS[row]
-}
-
-/// Writes the ranks of the true ones among sixteen adjacent bools, unless all are false, after the
-/// first `many` ranks, and returns how many there are then.
-#[inline(always)]
-fn note_sixteen(found: &mut [u32; 512], many: usize, bools: Bools<'_>, at: usize) -> usize
-    requires lie { LieInBytes bools }
-    requires adjacent { bools.run.step ≡ pos 1 }
-    requires end { at + 16 ≤ bools.run.count }
-    requires few { many + 16 ≤ 512 }
-    ensures many { result ≤ many + 16 }
-    ensures found { (whole : List ℕ) → take many found.old ++ ranks_from bools.entry at ≡ whole
-        → take result found.new ++ ranks_from bools.entry (at + 16) ≡ whole }
-{
-    let loaded = array_at::<16>(bools.bytes, bools.run.offset + at);
-    let mut bits = bits_of(u8x16::from_array(loaded));
-    if bits == 0 {
-        return many;
-    }
-    let mut many = many;
-    let mut first = u32x4::splat((bools.rank + at) as u32);
-    for _ in 0..4usize {
-        many = note_four(found, many, bits % 16, first);
-        first += u32x4::splat(4);
-        bits /= 16;
-    }
-    many
-}
-
-/// Writes the ranks of the true ones among adjacent bools. Sixteen that are all false are passed over
-/// at once.
-fn note_adjacent(found: &mut [u32; 512], bools: Bools<'_>, from: usize, end: usize) -> usize
-    requires block { IsBlock bools from end }
-    requires adjacent { bools.run.step ≡ pos 1 }
-    ensures { AreNoted bools.entry from end found.new result }
-{
-    let mut many = 0;
-    let mut at = from;
-    while end - at >= 16 {
-        many = note_sixteen(found, many, bools, at);
-        at += 16;
-    }
-    note_true(found, many, bools, at, end)
-}
-
-/// Writes the ranks of the bools in a range, which are all true.
-fn note_all(found: &mut [u32; 512], bools: Bools<'_>, from: usize, end: usize) -> usize
-    requires block { IsBlock bools from end }
-    requires all { AreAll bools from end 1 }
-    ensures { AreNoted bools.entry from end found.new result }
-{
-    let mut rank = (bools.rank + from) as u32;
-    for k in from..end {
-        found[k - from] = rank;
-        rank += 1;
-    }
-    end - from
-}
-
-/// Whether the bytes of a range are all the same.
-fn are_same(bytes: &[u8], from: usize, end: usize) -> bool
-    requires { end ≤ length bytes.now }
-    ensures { IsTrue result → (k : ℕ) → from ≤ k → k < end
-        → get_or bytes.now k 0 ≡ get_or bytes.now from 0 }
-{
-    let mut same = true;
-    for k in from..end {
-        same &= bytes[k] == bytes[from];
-    }
-    same
-}
-
-/// Writes the ranks of the true bools of a block. If the bools are adjacent, and all of them or
-/// none of them are true, they are not looked at one by one.
+/// Writes the ranks of the true bools of a block.
 fn note_block(found: &mut [u32; 512], bools: Bools<'_>, from: usize, end: usize) -> usize
     requires block { IsBlock bools from end }
     requires some { from < end }
     ensures { AreNoted bools.entry from end found.new result }
 {
-    let Run { offset, step, .. } = bools.run;
-    if step != 1 {
-        return note_true(found, 0, bools, from, end);
+    if bools.run.step == 1 {
+        return note_adjacent(found, bools, from, end);
     }
-    let first = offset + from;
-    if !are_same(bools.bytes, first, offset + end) {
-        note_adjacent(found, bools, from, end)
-    } else if bools.bytes[first] == 0 {
-        0
-    } else {
-        note_all(found, bools, from, end)
-    }
+    note_true(found, 0, bools, from, end)
 }
 
 /// Adds the ranks of the true bools, block by block.
@@ -212,14 +41,14 @@ fn push_true(
     Ok(())
 }
 
-/// The ranks at which a mask is true, read in place, in a list that has room for `many`.
-fn ranks_in(alloc: Global, mask: Items<'_>, many: usize) -> Result<Vec<u32>, AllocError>
+/// The ranks at which a mask is true, read in place, in a list that has room for so many from the start.
+fn ranks_in(alloc: Global, mask: Items<'_>, room: usize) -> Result<Vec<u32>, AllocError>
     requires kind { kind_in mask ≡ Mask }
     ensures { IfOk result (λ v. v.items ≡ true_ranks 0 (numbers_in mask.entry)) }
 {
     let _items = mask.layout.shape.items();
     let bytes = mask.block.bytes();
-    let mut ranks = Vec::with_capacity(alloc, many)?;
+    let mut ranks = Vec::with_capacity(alloc, room)?;
     let mut found = [0; 512];
     let mut rank = 0;
     for run in Runs::new(mask.layout) {
@@ -227,57 +56,6 @@ fn ranks_in(alloc: Global, mask: Items<'_>, many: usize) -> Result<Vec<u32>, All
         rank += run.count;
     }
     Ok(ranks)
-}
-
-/// How many of a few bools are true. They are counted in a byte, so that a vector holds sixteen counts.
-#[inline(always)]
-fn count_few(bools: Bools<'_>, from: usize, end: usize) -> u8
-    requires lie { LieInBytes bools }
-    requires order { from ≤ end }
-    requires end { end ≤ bools.run.count }
-    requires few { end ≤ from + 128 }
-    ensures { let numbers = bools_in bools.entry in
-        result + true_count (drop end numbers) ≡ true_count (drop from numbers) }
-{
-    let mut many = 0;
-    for k in from..end {
-        let one = truth(bools.bytes[bools.run.offset_after(k)]);
-        many += one as u8;
-    }
-    many
-}
-
-/// How many bools of a run are true, a few at a time.
-#[inline(always)]
-fn count_blocks(bools: Bools<'_>) -> usize
-    requires { LieInBytes bools }
-    ensures { result ≡ true_count (bools_in bools.entry) }
-{
-    let mut many = 0;
-    let mut from = 0;
-    while from < bools.run.count {
-        let end = bools.run.count.min(from + 128);
-        many += count_few(bools, from, end) as usize;
-        from = end;
-    }
-    many
-}
-
-/// The same, with separate loops for adjacent bools and for others.
-fn count_run(bools: Bools<'_>) -> usize
-    requires { LieInBytes bools }
-    ensures { result ≡ true_count (bools_in bools.entry) }
-{
-    match bools.run.step {
-        1 => {
-            let run = Run {
-                step: 1,
-                ..bools.run
-            };
-            count_blocks(Bools { run, ..bools })
-        }
-        _ => count_blocks(bools),
-    }
 }
 
 /// How many items of a mask are true, counted in place.
@@ -322,106 +100,17 @@ pub(crate) fn count_true(alloc: Global, mask: Items<'_>) -> usize
     }
 }
 
-/// The ranks at which a mask is true.
-pub(crate) fn true_ranks(alloc: Global, mask: BoolMask<'_>) -> Result<Vec<u32>, AllocError>
-    ensures { IfOk result (λ v. v.items ≡ true_ranks 0 (numbers_in mask.entry.array)) }
+/// The ranks at which a mask is true, in a list that has room for so many from the start.
+pub(crate) fn true_ranks(
+    alloc: Global,
+    mask: Items<'_>,
+    room: usize,
+) -> Result<Vec<u32>, AllocError>
+    requires kind { kind_in mask ≡ Mask }
+    ensures { IfOk result (λ v. v.items ≡ true_ranks 0 (numbers_in mask.entry)) }
 {
-    let BoolMask { array, many } = mask;
-    match copied(alloc, array) {
-        Some(copied) => ranks_in(alloc, copied.items(), many),
-        None => ranks_in(alloc, array, many),
-    }
-}
-
-/// A run of a layout, the rank of its first item, and the runs after it.
-#[derive(Drop)]
-pub(crate) struct RunAt<'a> {
-    layout: &'a Layout,
-    run: Run,
-    first: usize,
-    later: Runs<'a>,
-}
-
-/// The offset of the item with this rank. It continues from the last call, so rising ranks take a
-/// single walk.
-fn offset_at(at: &mut RunAt<'_>, rank: usize) -> usize
-    requires at { IsAtRun at.old }
-    requires rank { rank < count at.old.layout.now.shape }
-    ensures value { result ≡ slice_index (offsets at.old.layout.now) rank }
-    ensures bound { result ≤ max_bytes }
-    ensures at { IsAtRun at.new }
-    ensures layout { at.new.layout.now ≡ at.old.layout.now }
-{
-    let _items = at.layout.shape.items();
-    if rank < at.first {
-        return at.layout.at_rank(rank);
-    }
-    while rank - at.first >= at.run.count {
-        at.first += at.run.count;
-        match at.later.next() {
-            Some(run) => at.run = run,
-            None => unreachable!(),
-        }
-    }
-    at.run.offset_after(rank - at.first)
-}
-
-/// The step between the items of a run; for a single item, any step does.
-fn small_step(run: Run) -> i32
-    requires { LieWithin (run.count ∷ []) (run.step ∷ []) run.offset max_bytes 1 }
-    ensures { (k : ℕ) → k < run.count → result *ℤ pos k ≡ run.step *ℤ pos k }
-{
-    if run.count < 2 {
-        return 0;
-    }
-    run.step as i32
-}
-
-/// Replaces each rank by its offset, if the items are a single run. The offsets are computed with 32
-/// bits, so that a vector holds four of them.
-fn lead_along(run: Run, ranks: &mut [u32])
-    requires few { run.count ≤ max_items }
-    requires lies { LieWithin (run.count ∷ []) (run.step ∷ []) run.offset max_bytes 1 }
-    requires ranks { All (λ rank. rank < run.count) ranks.old }
-    ensures { ranks.new ≡ led (run_offsets run) ranks.old }
-{
-    let step = small_step(run);
-    for rank in ranks.iter_mut() {
-        *rank = (step * *rank as i32 + run.offset as i32) as u32;
-    }
-}
-
-/// Replaces each rank by its offset, run by run. Its loop needs all registers, so it is not inlined.
-#[inline(never)]
-fn lead_by_runs(layout: &Layout, ranks: &mut [u32])
-    requires some { 0 < count layout.now.shape }
-    requires ranks { All (λ rank. rank < count layout.now.shape) ranks.old }
-    ensures { ranks.new ≡ led (offsets layout.now) ranks.old }
-{
-    let mut later = Runs::new(layout);
-    let Some(run) = later.next() else {
-        unreachable!()
-    };
-    let mut at = RunAt {
-        layout,
-        run,
-        first: 0,
-        later,
-    };
-    for rank in ranks.iter_mut() {
-        *rank = offset_at(&mut at, *rank as usize) as u32;
-    }
-}
-
-/// Replaces each rank by the offset of its item.
-pub(crate) fn lead_through(layout: &Layout, ranks: &mut [u32])
-    requires some { 0 < count layout.now.shape }
-    requires ranks { All (λ rank. rank < count layout.now.shape) ranks.old }
-    ensures { ranks.new ≡ led (offsets layout.now) ranks.old }
-{
-    let _items = layout.shape.items();
-    match layout.as_one_run() {
-        Some(run) => lead_along(run, ranks),
-        None => lead_by_runs(layout, ranks),
+    match copied(alloc, mask) {
+        Some(copied) => ranks_in(alloc, copied.items(), room),
+        None => ranks_in(alloc, mask, room),
     }
 }

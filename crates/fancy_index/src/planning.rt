@@ -43,17 +43,17 @@ fn shapes(alloc: Global, parts: &[IndexPart<'_>]) -> Result<(SmallVec<usize, 4>,
 fn plan_of_some(
     alloc: Global,
     layout: &Layout,
-    parts: &[IndexPart<'_>],
+    parts: &mut [IndexPart<'_>],
     points: &[usize],
     shape: Shape,
 ) -> Result<Plan, Refusal>
-    requires are { AreParts layout.now.shape parts.now }
-    requires ready { All (IsReady points.now) parts.now }
-    requires shape { shape ≡ all_axes points.now (map shown_part parts.now) }
+    requires are { AreParts layout.now.shape parts.old }
+    requires ready { All (IsReady points.now) parts.old }
+    requires shape { shape ≡ all_axes points.now (map shown_part parts.old) }
     requires some { 0 < count shape }
     ensures ok { IfOk result (λ plan.
-        IsPlanOf layout.now plan (view_of points.now (map shown_part parts.now))) }
-    ensures within { IsWithin (all_named parts.now) result }
+        IsPlanOf layout.now plan (view_of points.now (map shown_part parts.old))) }
+    ensures within { IsWithin (all_named parts.old) result }
 {
     let _lengths = shape.as_slice();
     let rest = rest(alloc, layout, parts)?;
@@ -74,9 +74,13 @@ fn plan_of_some(
 
 /// The plan of the parts of an index list, or its refusal. Numbers out of range are refused before
 /// shapes that do not broadcast.
-fn plan_of_parts(alloc: Global, layout: &Layout, parts: &[IndexPart<'_>]) -> Result<Plan, Refusal>
-    requires { AreParts layout.now.shape parts.now }
-    ensures { GivesPlan layout.now result (view_if_named parts.now) }
+fn plan_of_parts(
+    alloc: Global,
+    layout: &Layout,
+    parts: &mut [IndexPart<'_>],
+) -> Result<Plan, Refusal>
+    requires { AreParts layout.now.shape parts.old }
+    ensures { GivesPlan layout.now result (view_if_named parts.old) }
 {
     let _lengths = layout.shape.as_slice();
     match shapes(alloc, parts) {
@@ -110,6 +114,6 @@ pub fn plan(alloc: Global, layout: &Layout, items: &[IndexItem<Items<'_>>]) -> R
 {
     let lengths = layout.shape.as_slice();
     let left = check(lengths, items)?;
-    let parts = parts_of(alloc, left)?;
-    plan_of_parts(alloc, layout, parts.as_slice())
+    let mut parts = parts_of(alloc, left)?;
+    plan_of_parts(alloc, layout, parts.as_mut_slice())
 }

@@ -3,8 +3,8 @@ ghost use Rattle.std.specs.Prelude.{◌≡◌, ◌+◌, ◌*◌, ◌<◌, ◌≤
 ghost use Rattle.fancy_index.specs.Clauses.{OutOfMemory, TooLarge, item_from, item_size, C, max_bytes, max_items, count, offsets, multiples, items_at, assigned, offsets_in, put_each, laid_offsets, AllStart, offsets_from};
 
 use crate::gather_scatter::{fill, push_all, scatter};
+use crate::item_sources::{PackedItems, Source};
 use crate::plan_rows::{PlanAxes, moved};
-use crate::singles::{PackedItems, Source};
 use arrays::{Owned, gather};
 use elem_descr::{Descr, MemoryOrder, Refusal};
 use raw_block::{BlockBuilder, RawBlock};

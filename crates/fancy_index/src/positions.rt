@@ -1,18 +1,17 @@
 //! The integers of an array, read in place, and the indexes that they stand for.
-ghost use Rattle.std.specs.Prelude.{◌≡◌, ◌≤◌, ◌<◌, ℤ, List, length, get_or, pos, IfSome, IsTrue};
-ghost use Rattle.fancy_index.specs.Words.{Gives, count, max_items};
-ghost use Rattle.fancy_index.specs.declared.kinds.Kind.TheVariants.{Integers};
-ghost use Rattle.fancy_index.specs.inside.Items.{kind_in, numbers_in};
+ghost use Rattle.std.specs.Prelude.{◌≡◌, ◌≤◌, length, IfSome};
+ghost use Rattle.fancy_index.specs.Words.{Gives, count};
+ghost use Rattle.fancy_index.specs.inside.Items.{numbers_in};
 ghost use Rattle.fancy_index.specs.inside.Tables.{IsTableOf};
-ghost use Rattle.fancy_index.specs.inside.Words.{named_places, word, words_along, AreWords, IsNative, LiesIn, IsPlaceOf, ArePlaces};
+ghost use Rattle.fancy_index.specs.inside.Words.{named_places, AreWords, ArePlaces};
 
+use crate::fast::native_integers::put_run;
+use crate::fast::offset_tables::{OffsetTable, table_if_spread};
+use crate::fast::table_places::{Reading, put_table};
 use crate::index_arrays::Named;
 use crate::integers::{Form, Words, put_places};
-use crate::offset_tables::{OffsetTable, table_if_spread};
-use crate::table_places::{Reading, put_table};
 use elem_descr::{Descr, Order, Refusal, Scalar};
-use raw_block::RawBlock;
-use shape_strides::{Run, Runs};
+use shape_strides::Runs;
 use std::alloc::Global;
 
 /// The form of the integers of an array.
@@ -37,39 +36,6 @@ fn form_of(named: Named<'_>) -> Form
             width: width.bytes(),
         },
         _ => unreachable!(),
-    }
-}
-
-/// Whether integers of this form are adjacent and in the machine's own byte order.
-fn is_native(form: Form, run: Run) -> bool
-    ensures { IsTrue result → IsNative form run }
-{
-    form.signed && form.order == Order::Little && run.is_packed(form.width)
-}
-
-/// Writes the indexes that a run of integers stands for on an axis of `n` items, and returns whether
-/// all are in range. Adjacent integers in the machine's byte order are read as numbers. Its loops
-/// need all registers, so it is not inlined.
-#[inline(never)]
-fn put_run<const N: usize>(
-    places: &mut [u32],
-    block: &RawBlock,
-    form: Form,
-    run: Run,
-    n: usize,
-) -> bool
-    requires few { (1 ≤ N) × (N ≤ 8) }
-    requires width { form.width ≡ N }
-    requires small { n ≤ max_items }
-    requires lies { LiesIn block.now form.width run }
-    requires many { length places.old ≡ length (words_along form block.now run) }
-    ensures { ArePlaces n (words_along form block.now run) result places.new }
-{
-    let bytes = block.bytes();
-    match (N, is_native(form, run)) {
-        (4, true) => put_places(places, block.run_i32(run.offset, run.count), n),
-        (8, true) => put_places(places, block.run_i64(run.offset, run.count), n),
-        _ => put_places(places, Words::<N> { bytes, form, run }, n),
     }
 }
 

@@ -4,7 +4,7 @@ ghost use Rattle.fancy_index.specs.Clauses.{IsShape, address, can_stretch, count
 
 use crate::along_axes::along;
 use crate::index_parts::IndexPart;
-use crate::masks::lead_through;
+use crate::rank_offsets::to_offsets;
 use broadcasting::stretched_to;
 use elem_descr::Refusal;
 use shape_strides::{Layout, Run, Runs, Shape, Strides};
@@ -37,24 +37,24 @@ fn add_part(
     alloc: Global,
     origin: Origin<'_>,
     axis: usize,
-    part: &IndexPart<'_>,
+    part: &mut IndexPart<'_>,
     shifts: &mut Vec<u32>,
 ) -> Result<(), Refusal>
     requires origin { IsOrigin origin }
-    requires ready { IsReady origin.lengths.now part.now }
-    requires begins { BeginsAt origin.layout.now axis origin.start part.now }
+    requires ready { IsReady origin.lengths.now part.old }
+    requires begins { BeginsAt origin.layout.now axis origin.start part.old }
     requires many { AreSoMany (count origin.lengths.now) shifts.old.items }
-    requires can { CanAdd origin axis part.now shifts.old.items }
+    requires can { CanAdd origin axis part.old shifts.old.items }
     ensures ok { OnOk result
-        (HaveAdded origin.entry axis part.now shifts.old.items shifts.new.items) }
-    ensures within { IsWithin (is_named part.now) result }
+        (HaveAdded origin.entry axis part.old shifts.old.items shifts.new.items) }
+    ensures within { IsWithin (is_named part.old) result }
 {
     match part {
         IndexPart::Points(points) => {
             let axes = points.axes.as_slice();
             let along = along(alloc, origin.layout, axis, axes, origin.start)?;
-            let mut offsets = points.ranks.read(alloc)?;
-            lead_through(&along, offsets.as_mut_slice());
+            let mut offsets = points.ranks.take(alloc)?;
+            to_offsets(&along, offsets.as_mut_slice());
             add_points(alloc, origin, points.lengths.as_slice(), offsets, shifts)?;
         }
         _ => {}
@@ -67,23 +67,23 @@ fn add_part(
 pub(crate) fn shifts(
     alloc: Global,
     origin: Origin<'_>,
-    parts: &[IndexPart<'_>],
+    parts: &mut [IndexPart<'_>],
     many: usize,
 ) -> Result<Vec<u32>, Refusal>
     requires origin { IsOrigin origin }
-    requires start { pos origin.start ≡ address origin.layout.now (starts parts.now) }
-    requires are { AreParts origin.layout.now.shape parts.now }
-    requires ready { All (IsReady origin.lengths.now) parts.now }
-    requires leads { LeadInto origin.layout.now origin.lengths.now parts.now }
+    requires start { pos origin.start ≡ address origin.layout.now (starts parts.old) }
+    requires are { AreParts origin.layout.now.shape parts.old }
+    requires ready { All (IsReady origin.lengths.now) parts.old }
+    requires leads { LeadInto origin.layout.now origin.lengths.now parts.old }
     requires many { many ≡ count origin.lengths.now }
-    ensures ok { let first = first_offset origin.entry.layout.now parts.now in
+    ensures ok { let first = first_offset origin.entry.layout.now parts.old in
         IfOk result (λ v. v.items ≡ map first (indexes origin.entry.lengths.now)) }
-    ensures within { IsWithin (all_named parts.now) result }
+    ensures within { IsWithin (all_named parts.old) result }
 {
     let _lengths = origin.layout.shape.as_slice();
     let mut shifts = Vec::new(alloc);
     let mut axis = 0;
-    for part in parts {
+    for part in parts.iter_mut() {
         let axes = axes_of(part);
         add_part(alloc, origin, axis, part, &mut shifts)?;
         axis += axes;

@@ -3,6 +3,9 @@
 /// Below this count it does not pay to replace evenly spaced shifts by an axis.
 pub(crate) const MANY_SHIFTS: usize = 128;
 
+/// A mask that is read without a count gets room for so many ranks at first, if it has as many items.
+pub(crate) const FIRST_RANKS: usize = 1 << 14;
+
 /// Rows of more items are long: a call for each row costs little.
 pub(crate) const SHORT_ROW: usize = 128;
 

@@ -1,7 +1,7 @@
 -- Bools, read from bytes.
 use Rattle.std.specs.Prelude.{ℕ, ◌≡◌, ◌+◌, ◌/◌, ◌%◌, ◌^◌, ◌<◌, ◌≤◌, ℤ, pos, List, [], ◌∷◌, ◌++◌, map, length, get_or, take, drop, count_by, not, All}
 use Rattle.fancy_index.specs.Words.{digits_l, int_eq, truth, LieWithin, max_items, max_bytes, run_offsets}
-use Rattle.fancy_index.specs.declared.masks.Bools.{Bools}
+use Rattle.fancy_index.specs.declared.bools.Bools.{Bools}
 use Rattle.fancy_index.specs.inside.PointLists.{true_ranks}
 
 -- the bool in the byte at an offset: 0 or 1

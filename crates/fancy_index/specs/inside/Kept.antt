@@ -4,9 +4,9 @@ use Rattle.fancy_index.specs.Words.{assigned, joined_at, row_offsets, count, off
 use Rattle.fancy_index.specs.declared.plan_rows.MovedLayout.{MovedLayout}
 use Rattle.fancy_index.specs.declared.plan_rows.PlanAxes.{PlanAxes}
 use Rattle.fancy_index.specs.declared.plan_rows.Shifted.{Shifted}
-use Rattle.fancy_index.specs.declared.short_rows.ShortRows.{ShortRows}
-use Rattle.fancy_index.specs.declared.singles.PackedItems.{PackedItems}
-use Rattle.fancy_index.specs.declared.singles.Source.{Source}
+use Rattle.fancy_index.specs.declared.fast.short_rows.ShortRows.{ShortRows}
+use Rattle.fancy_index.specs.declared.item_sources.PackedItems.{PackedItems}
+use Rattle.fancy_index.specs.declared.item_sources.Source.{Source}
 use Rattle.fancy_index.specs.Plans.{put_each}
 use Rattle.fancy_index.specs.inside.Moved.{moved_offset, shifted_all, moved_all, laid_offsets}
 

@@ -3,7 +3,7 @@ use Rattle.std.specs.Prelude.{◌≡◌, ◌⊎◌, ◌<◌, ℕ, ◌+◌, ◌%�
 use Rattle.fancy_index.specs.Words.{list_all, int_eq, count, indexes, is_place}
 use Rattle.fancy_index.specs.declared.points.PointList.{PointList}
 use Rattle.fancy_index.specs.declared.points.Ranks.{Ranks}
-use Rattle.fancy_index.specs.declared.points.Ranks.TheVariants.{Masked, Named, One}
+use Rattle.fancy_index.specs.declared.points.Ranks.TheVariants.{Held, Masked, Named}
 use Rattle.fancy_index.specs.inside.Items.{numbers_in}
 use Rattle.fancy_index.specs.inside.Words.{place_of}
 use Rattle.fancy_index.specs.Parts.{Part, Points}
@@ -26,9 +26,9 @@ tuple axes rank = get_or (indexes axes) rank []
 
 -- the ranks of points, and whether each number is in range
 abbrev pub ranks_of : Ranks → List ℕ
-ranks_of (One rank) = rank ∷ []
 ranks_of (Named named) = map (rank_on named.n) (numbers_in named.array)
 ranks_of (Masked mask) = true_ranks 0 (numbers_in mask.array)
+ranks_of (Held ranks) = ranks.items
 
 abbrev pub are_named : Ranks → Bool
 are_named (Named named) = list_all (is_place named.n) (numbers_in named.array)

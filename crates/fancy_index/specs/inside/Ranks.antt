@@ -1,7 +1,7 @@
 -- How ranks are turned into offsets, run by run.
 use Rattle.std.specs.Prelude.{◌≡◌, ◌≤◌, ℕ, List, [], ◌∷◌, map, length, get_or, drop, All}
 use Rattle.fancy_index.specs.Words.{flat_map, LieWithin, offsets, max_bytes, run_offsets}
-use Rattle.fancy_index.specs.declared.masks.RunAt.{RunAt}
+use Rattle.fancy_index.specs.declared.rank_offsets.RunAt.{RunAt}
 
 -- the offsets of the items with these ranks
 abbrev pub led : List ℕ → List ℕ → List ℕ

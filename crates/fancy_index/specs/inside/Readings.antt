@@ -1,7 +1,7 @@
 -- The integers of an array, read by a table of offsets.
-use Rattle.std.specs.Prelude.{◌≡◌, ◌+◌, ◌*◌, ◌-◌, ◌<◌, ◌≤◌, ℕ, ℤ, List, map, length, All}
+use Rattle.std.specs.Prelude.{◌+◌, ◌-◌, ◌≤◌, ℕ, ℤ, List, map, length, All}
 use Rattle.fancy_index.specs.Words.{item_at, max_bytes}
-use Rattle.fancy_index.specs.declared.offset_tables.OffsetTable.{OffsetTable}
+use Rattle.fancy_index.specs.declared.fast.offset_tables.OffsetTable.{OffsetTable}
 use Rattle.fancy_index.specs.declared.integers.Form.{Form}
 use Rattle.fancy_index.specs.declared.index_arrays.Named.{Named}
 use Rattle.fancy_index.specs.inside.Tables.{IsTableOf}

@@ -1,7 +1,7 @@
 -- Offset tables, and what is known once the integers at some places were read.
-use Rattle.std.specs.Prelude.{◌≡◌, ◌+◌, ◌*◌, ◌/◌, ◌%◌, ◌-◌, ◌<◌, ◌≤◌, ℕ, Bool, true, false, ℤ, pos, List, length, get_or, All}
+use Rattle.std.specs.Prelude.{◌≡◌, ◌+◌, ◌*◌, ◌/◌, ◌%◌, ◌<◌, ◌≤◌, ℕ, Bool, true, false, ℤ, pos, List, length, get_or, All}
 use Rattle.fancy_index.specs.Words.{Layout, offsets, max_bytes, max_items, is_place, list_all}
-use Rattle.fancy_index.specs.declared.offset_tables.OffsetTable.{OffsetTable}
+use Rattle.fancy_index.specs.declared.fast.offset_tables.OffsetTable.{OffsetTable}
 use Rattle.fancy_index.specs.inside.Words.{place_of}
 
 -- the offset of an item is the sum of those of its row and its column, less that of the first item

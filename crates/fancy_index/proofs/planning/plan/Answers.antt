@@ -17,6 +17,6 @@ returns c =
     let lengths = c.in_ok-left.ensures.axes ∙ c.as_slice-lengths.ensures.value in
     let listed = c.in_ok-left.ensures.items in
     let made = c.in_ok-parts.ensures in
-    let named = ap all_named c.as_slice.ensures.value ∙ made.named ∙ (λ i. are_within (lengths i) (listed i)) in
-    let view = named-view _ (parts shape items) _ named (λ all. ap (map shown_part) c.as_slice.ensures.value ∙ made.shown (sym (ap all_named c.as_slice.ensures.value) ∙ named ∙ all) ∙ (λ i. parts (lengths i) (listed i))) in
+    let named = ap all_named c.as_mut_slice.ensures.value ∙ made.named ∙ (λ i. are_within (lengths i) (listed i)) in
+    let view = named-view _ (parts shape items) _ named (λ all. ap (map shown_part) c.as_mut_slice.ensures.value ∙ made.shown (sym (ap all_named c.as_mut_slice.ensures.value) ∙ named ∙ all) ∙ (λ i. parts (lengths i) (listed i))) in
     subst (GivesPlan c.args.layout.now c.plan_of_parts.result) (view ∙ sym (indexed-parts shape items (rw (lengths, listed) at c.in_ok-left.ensures.ok))) c.plan_of_parts.ensures

@@ -11,8 +11,10 @@ pub returns-in_ok-try_new-in-Mask-clause-part : goal.returns-in_ok-try_new-in-Ma
 returns-in_ok-try_new-in-Mask-clause-part c =
     let a = index_array_of c.args.array in
     let points = c.in_ok-try_new-in-Mask in
-    let ranks = ap ranks_of points.ensures.ranks in
-    part-of_mask (kind a) c.args.axes.now a.shape a.numbers points.field-0 (sym c.kind_of.ensures ∙ c.in-Mask.is) c.requires.covers (many c.args.array) (points.ensures.lengths ∙ ap (λ n. n ∷ []) (c.count_true-many.ensures ∙ ap length (sym ranks))) points.ensures.axes (ap are_named points.ensures.ranks) ranks
+    let read = c.in_ok-ranks-in-Mask in
+    let same = ap ranks_of points.ensures.ranks in
+    part-of_mask (kind a) c.args.axes.now a.shape a.numbers points.field-0 (sym c.kind_of.ensures ∙ c.in-Mask.is) c.requires.covers (many c.args.array)
+    (points.ensures.lengths ∙ ap (λ n. n ∷ []) (read.ensures.many ∙ ap length (sym same))) points.ensures.axes (ap are_named points.ensures.ranks ∙ read.ensures.named) (same ∙ read.ensures.ranks)
 
 pub returns-in_ok-try_new-in-Integers-clause-part : goal.returns-in_ok-try_new-in-Integers-clause-part
 returns-in_ok-try_new-in-Integers-clause-part c =
