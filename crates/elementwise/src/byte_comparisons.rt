@@ -2,9 +2,9 @@
 ghost use Rattle.std.specs.Prelude.{List, [], length, map, ℕ, ◌∷◌, ◌≡◌, ◌≤◌};
 ghost use Rattle.elementwise.specs.Clauses.{GivesArray, bytes_compared_result, compared, compared_item, item_from, offsets, text, without_nuls};
 
-use crate::byte_strings::without_nuls;
 use crate::comparisons::compare_with_one;
-use crate::promotion::scalar_of;
+use crate::kernels::byte_strings::without_nuls;
+use crate::rules::promotion::scalar_of;
 use arrays::{Items, Owned};
 use elem_descr::{Comparison, Refusal, Scalar};
 use raw_block::BlockBuilder;

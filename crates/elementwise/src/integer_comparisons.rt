@@ -2,10 +2,10 @@
 ghost use Rattle.std.specs.Prelude.{[], map, ◌∷◌};
 ghost use Rattle.elementwise.specs.Clauses.{GivesArray, compared_item, integer_compared_result, item_from, number, offsets};
 
-use crate::bits::note_slice;
-use crate::comparison_kernels::says;
 use crate::comparisons::compare_with_one;
-use crate::promotion::scalar_of;
+use crate::kernels::bits::note_slice;
+use crate::kernels::comparing::says;
+use crate::rules::promotion::scalar_of;
 use arrays::{Items, Owned};
 use elem_descr::{Comparison, Descr, MemoryOrder, Refusal, Scalar, is_value, num_write};
 use machine_numbers::{is_text, little};
