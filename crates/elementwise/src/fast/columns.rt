@@ -4,7 +4,6 @@ ghost use Rattle.elementwise.specs.Clauses.{items, held_descr, held_items, held_
 ghost use Rattle.elementwise.specs.inside.Made.{IsTurned};
 ghost use Rattle.elementwise.specs.inside.Operands.{AreMatched, IsPaired};
 
-use crate::fast::layouts::Layouts;
 use crate::held::Held;
 use crate::loops::row_pairs::Operands;
 use crate::pairing::{Pairing, made_by_rows};
@@ -41,9 +40,13 @@ fn step(layout: &Layout) -> usize {
 
 /// Both layouts with their axes reversed, if that brings successive items closer together and
 /// leaves no short rows.
-fn columns(alloc: Global, left: &Layout, right: &Layout) -> Result<Option<Layouts>, AllocError>
-    ensures { IfOk result (λ columns. IfSome columns (λ c. IsTurned c.first left.now
-        × IsTurned c.second right.now)) }
+fn columns(
+    alloc: Global,
+    left: &Layout,
+    right: &Layout,
+) -> Result<Option<(Layout, Layout)>, AllocError>
+    ensures { IfOk result (λ columns. IfSome columns (λ c. IsTurned c.0 left.now
+        × IsTurned c.1 right.now)) }
 {
     let first = Layout::reversed(alloc, left)?;
     let second = Layout::reversed(alloc, right)?;
@@ -54,7 +57,7 @@ fn columns(alloc: Global, left: &Layout, right: &Layout) -> Result<Option<Layout
     {
         return Ok(None);
     }
-    Ok(Some(Layouts { first, second }))
+    Ok(Some((first, second)))
 }
 
 /// Combines many pairs: column by column if both operands are stored so, and otherwise row by row,
@@ -83,12 +86,12 @@ fn made_of_many(
     let turned = Operands {
         left: Items {
             block: left.block,
-            layout: &columns.first,
+            layout: &columns.0,
             descr: left.descr,
         },
         right: Items {
             block: right.block,
-            layout: &columns.second,
+            layout: &columns.1,
             descr: right.descr,
         },
     };

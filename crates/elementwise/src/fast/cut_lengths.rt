@@ -47,7 +47,7 @@ fn trimmed_in(
         return Ok(width);
     }
     let small = without_repeats(alloc, layout, layout, &layout.shape)?;
-    Ok(longest(items.block.bytes(), &small.first, width))
+    Ok(longest(items.block.bytes(), &small.0, width))
 }
 
 /// The lengths to which the byte strings of two arrays can be cut without a change of their order.

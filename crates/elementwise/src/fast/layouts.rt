@@ -1,17 +1,10 @@
-//! The layouts of two operands, and smaller ones without the axes along which items repeat.
+//! Layouts without the axes along which items repeat.
 ghost use Rattle.std.specs.Prelude.{IfOk, IsTrue};
 ghost use Rattle.elementwise.specs.Clauses.{can_stretch, IsShrunk};
 
 use broadcasting::{shrink, shrunk_shape, stretched_to};
 use shape_strides::{Layout, Shape};
 use std::alloc::{AllocError, Global};
-
-/// The layouts of two operands.
-#[derive(Drop)]
-pub(crate) struct Layouts {
-    pub(crate) first: Layout,
-    pub(crate) second: Layout,
-}
 
 /// Two layouts that stretch to a shape, with length 1 on each axis of it along which the items of
 /// both repeat. They have one shape.
@@ -20,16 +13,16 @@ pub(crate) fn without_repeats(
     left: &Layout,
     right: &Layout,
     shape: &Shape,
-) -> Result<Layouts, AllocError>
+) -> Result<(Layout, Layout), AllocError>
     requires stretches { IsTrue (can_stretch left.now.shape shape.now) }
     requires also { IsTrue (can_stretch right.now.shape shape.now) }
-    ensures first { IfOk result (λ s. IsShrunk s.first left.now s.first.shape shape.now) }
-    ensures second { IfOk result (λ s. IsShrunk s.second right.now s.first.shape shape.now) }
+    ensures first { IfOk result (λ s. IsShrunk s.0 left.now s.0.shape shape.now) }
+    ensures second { IfOk result (λ s. IsShrunk s.1 right.now s.0.shape shape.now) }
 {
     let wide = stretched_to(alloc, left, shape)?;
     let other = stretched_to(alloc, right, shape)?;
     let shape = shrunk_shape(alloc, &wide, &other)?;
     let first = shrink(alloc, &wide, &shape)?;
     let second = shrink(alloc, &other, &shape)?;
-    Ok(Layouts { first, second })
+    Ok((first, second))
 }

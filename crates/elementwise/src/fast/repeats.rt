@@ -48,15 +48,15 @@ pub(crate) fn compare_once(
     let once = Broadcast {
         left: Items {
             block: left.block,
-            layout: &small.first,
+            layout: &small.0,
             descr: left.descr,
         },
         right: Items {
             block: right.block,
-            layout: &small.second,
+            layout: &small.1,
             descr: right.descr,
         },
-        shape: &small.first.shape,
+        shape: &small.0.shape,
     };
     let made = compare_scalars(alloc, comparison, once)?;
     spread(alloc, &made, shape)

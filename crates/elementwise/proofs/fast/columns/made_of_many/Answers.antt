@@ -51,7 +51,7 @@ push-requires-clause-room c =
     let l = o.left.layout.now in let r = o.right.layout.now in
     let both = rw c.in-Some.is at c.in_ok-columns.ensures in
     let to = size (target_of p) in
-    let same : count c.in-Some.columns.first.shape * to ≡ count l.shape * to = ap (λ n. n * to) (ap count both.0.shape_is ∙ count-reverse l.shape) in
+    let same : count c.in-Some.columns.0.shape * to ≡ count l.shape * to = ap (λ n. n * to) (ap count both.0.shape_is ∙ count-reverse l.shape) in
     let len : c.in_ok-block.block.1 ≡ count l.shape * to = (λ i. (c.in_ok-block.ensures i).1) ∙ λ i. c.items-2.ensures.value i * (c.size-width.ensures.value ∙ ap size c.target-scalar.ensures) i in
     omega (arith, same, len)
 
@@ -61,7 +61,7 @@ finish-block-requires c =
     let l = o.left.layout.now in let r = o.right.layout.now in
     let both = rw c.in-Some.is at c.in_ok-columns.ensures in
     let to = size (target_of p) in
-    let same : count c.in-Some.columns.first.shape * to ≡ count l.shape * to = ap (λ n. n * to) (ap count both.0.shape_is ∙ count-reverse l.shape) in
+    let same : count c.in-Some.columns.0.shape * to ≡ count l.shape * to = ap (λ n. n * to) (ap count both.0.shape_is ∙ count-reverse l.shape) in
     let len : c.in_ok-block.block.1 ≡ count l.shape * to = (λ i. (c.in_ok-block.ensures i).1) ∙ λ i. c.items-2.ensures.value i * (c.size-width.ensures.value ∙ ap size c.target-scalar.ensures) i in
     omega (arith, same, len, c.push.ensures.left)
 

@@ -17,12 +17,12 @@ pub longest-requires-clause-inside : goal.longest-requires-clause-inside
 longest-requires-clause-inside c =
     let x = c.args.items in
     let kept = c.in_ok-small.ensures.first.inside (length x.block.now) c.args.width (fewer_inside x c.args.width c.args.width c.requires.descr (omega arith)) in
-    subst (λ bytes. All (λ offset. offset + c.args.width ≤ length bytes) (offsets c.in_ok-small.small.first)) (sym c.bytes.ensures) kept
+    subst (λ bytes. All (λ offset. offset + c.args.width ≤ length bytes) (offsets c.in_ok-small.small.0)) (sym c.bytes.ensures) kept
 
 pub returns-clause-cut : goal.returns-clause-cut
 returns-clause-cut c =
     let x = c.args.items in
-    let small = c.in_ok-small.small.first in
+    let small = c.in_ok-small.small.0 in
     let least = λ (bytes : List ℕ). All (λ offset. length (without_nuls (item_at offset c.args.width bytes)) ≤ c.longest.result) (offsets small) in (
       c.longest.ensures.within,
       all_seen (λ offset. length (without_nuls (item_at offset c.args.width x.block.now)) ≤ c.longest.result) x.layout.now small small.shape c.in_ok-small.ensures.first (subst least c.bytes.ensures c.longest.ensures.least),

@@ -13,8 +13,8 @@ invariant_of-once-2 c = let y = c.args.both.right in record { inside = c.in_ok-s
 pub invariant_of-once-3 : goal.invariant_of-once-3
 invariant_of-once-3 c =
     let s = c.in_ok-small in
-    let itself = can-itself s.small.first.shape in
-    record { first = (λ i. can_stretch (s.ensures.first.shape_is i) s.small.first.shape) ∙ itself; second = (λ i. can_stretch (s.ensures.second.shape_is i) s.small.first.shape) ∙ itself }
+    let itself = can-itself s.small.0.shape in
+    record { first = (λ i. can_stretch (s.ensures.first.shape_is i) s.small.0.shape) ∙ itself; second = (λ i. can_stretch (s.ensures.second.shape_is i) s.small.0.shape) ∙ itself }
 
 pub spread-requires-clause-bools : goal.spread-requires-clause-bools
 spread-requires-clause-bools c = c.in_ok-made.ensures.descr_is
@@ -28,6 +28,6 @@ returns c =
     let x = c.args.both.left in
     let y = c.args.both.right in
     made-as (ScalarDescr BoolScalar) c.args.both.shape.now _ _ c.spread.result
-    (pairs_spread (compared_item c.args.comparison) (ScalarDescr BoolScalar) x.descr.now y.descr.now x.block.now y.block.now x.layout.now y.layout.now s.small.first s.small.second s.small.first.shape c.args.both.shape.now c.in_ok-made.made
+    (pairs_spread (compared_item c.args.comparison) (ScalarDescr BoolScalar) x.descr.now y.descr.now x.block.now y.block.now x.layout.now y.layout.now s.small.0 s.small.1 s.small.0.shape c.args.both.shape.now c.in_ok-made.made
     s.ensures.first s.ensures.second c.in_ok-made.ensures)
     c.spread.ensures
