@@ -2,12 +2,10 @@
 #![tactic(auto)]
 
 mod apply;
-mod byte_comparisons;
 mod casts;
 mod comparisons;
 mod fast;
 mod held;
-mod integer_comparisons;
 mod kernels;
 mod loops;
 mod operands;
@@ -18,12 +16,10 @@ mod tuning;
 
 pub use apply::{apply1, apply2};
 pub use arrays::Items;
-pub use byte_comparisons::compare_bytes;
 pub use casts::cast;
-pub use comparisons::compare;
+pub use comparisons::{compare, compare_bytes, compare_integer};
 pub use elem_descr::{BinOp, UnOp};
 pub use held::keeps_items;
-pub use integer_comparisons::compare_integer;
 pub use rules::castable::{are_alike, can_cast};
 pub use rules::promotion::{
     compared_type, literal_type, promote, promote_one, same_kind, scalar_of,

@@ -3,7 +3,7 @@ use Rattle.elementwise.proofs.Words.{without_nuls-more, without_nuls-twice, Scal
 use Rattle.elementwise.proofs.ComparedLaws.{comparable_scalars}
 use Rattle.elementwise.proofs.MadeLaws.{made-given, refused}
 use Rattle.elementwise.proofs.BytesComparedLaws.{operand_refused, number_refused, one_given, items_within}
-use Rattle.elementwise.proofs.byte_comparisons.compare_bytes.Goals as goal
+use Rattle.elementwise.proofs.comparisons.compare_bytes.Goals as goal
 
 pub returns-in_err-from : goal.returns-in_err-from
 returns-in_err-from c =

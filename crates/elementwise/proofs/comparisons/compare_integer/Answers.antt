@@ -6,7 +6,7 @@ use Rattle.elementwise.proofs.CutLaws.{no_text}
 use Rattle.elementwise.proofs.ComparedLaws.{comparable_scalars, comparable_numbers}
 use Rattle.elementwise.proofs.MadeLaws.{made-as, made-given, refused, over-made}
 use Rattle.elementwise.proofs.IntegerLaws.{all_beyond, alike_made, operand_refused, text_refused, one_given}
-use Rattle.elementwise.proofs.integer_comparisons.compare_integer.Goals as goal
+use Rattle.elementwise.proofs.comparisons.compare_integer.Goals as goal
 
 pub returns-in_err-from : goal.returns-in_err-from
 returns-in_err-from c =

@@ -1,7 +1,7 @@
 use Rattle.std.proofs.Common.{◌≡◌, ◌||◌, Bool, true, false, not, ℕ, List, [], ◌∷◌, take, refl, ap, ◌∙◌, arith}
 use Rattle.elementwise.proofs.Words.{Equal, NotEqual, Less, LessOrEqual, Greater, GreaterOrEqual, text_below, without_nuls}
 use Rattle.elementwise.proofs.BeyondLaws.{told}
-use Rattle.elementwise.proofs.byte_comparisons.within.Goals as goal
+use Rattle.elementwise.proofs.comparisons.within.Goals as goal
 
 none-below : (xs : List ℕ) → text_below xs [] ≡ false
 none-below [] = refl
