@@ -2,13 +2,12 @@
 ghost use Rattle.std.specs.Prelude.{IfErr, IfOk, IsTrue, if◌then◌else◌, length, map, nat_le, true, ◌*◌, ◌+◌, ◌≡◌, ◌≤◌};
 ghost use Rattle.elementwise.specs.Clauses.{Bytes, EachWithin, ScalarDescr, can_cast, cast_item, C, IsNumber, NoSuchCast, OutOfMemory, TooLarge, count, encode_item, held_descr, held_items, held_shape, item_from, item_size, items, max_bytes, max_items, offsets, offsets_in, owned_items, place, run_offsets, size, HasSource, IsCut, cast_items, run_part, source, AreCast, AreItems, IsCast, flat_map};
 
-use crate::castable::{can_cast, keeps_items, leaf_of};
-use crate::held::Held;
-use crate::leaf_casts::{Column, Places};
-use crate::operands::made;
-use crate::operations::Work;
-use crate::pairing::Pairing;
-use crate::row_pairs::Operands;
+use crate::fast::columns::made;
+use crate::held::{Held, keeps_items};
+use crate::kernels::leaf_casts::{Column, Places};
+use crate::loops::row_pairs::Operands;
+use crate::pairing::{Pairing, Work};
+use crate::rules::castable::{can_cast, leaf_of};
 use crate::tuning::{BAND, FEWEST_IN_BAND};
 use arrays::{Items, Owned, copy_run, gather};
 use elem_descr::{Descr, Leaf, MemoryOrder, Refusal, Scalar};

@@ -1,11 +1,12 @@
 //! Items in place, or in a block of their own: cast, or copied into C order.
-ghost use Rattle.std.specs.Prelude.{◌≡◌};
-ghost use Rattle.elementwise.specs.Clauses.{items, held_descr, held_items, held_shape};
+ghost use Rattle.std.specs.Prelude.{IsTrue, length, ℕ, ◌+◌, ◌≡◌, ◌≤◌};
+ghost use Rattle.elementwise.specs.Clauses.{items, held_descr, held_items, held_shape, AreAlike, cast_item, item_from, item_size};
 
-use crate::tuning::FEW_ITEMS;
-use arrays::{Items, Owned, copy, goes_by_columns};
-use elem_descr::MemoryOrder;
-use std::alloc::Global;
+use crate::kernels::bits::note_slice;
+use crate::rules::castable::are_alike;
+use arrays::{Items, Owned};
+use elem_descr::Descr;
+use raw_block::RawBlock;
 
 /// Items in place, or in a block of their own.
 #[derive(Drop)]
@@ -15,22 +16,6 @@ pub(crate) enum Held<'a> {
 }
 
 impl<'a> Held<'a> {
-    /// The items in place or, if there are many and they are stored by columns, a copy in C order,
-    /// so that a single loop reads them all. Without memory for the copy, they stay in place.
-    pub(crate) fn near(alloc: Global, from: Items<'a>) -> Held<'a>
-        ensures descr { held_descr result ≡ from.entry.descr.now }
-        ensures shape { held_shape result ≡ from.entry.layout.now.shape }
-        ensures items { held_items result ≡ items from.entry }
-    {
-        if from.layout.shape.items() < FEW_ITEMS || !goes_by_columns(from.layout) {
-            return Held::Kept(from);
-        }
-        match copy(alloc, from.block, from.layout, from.descr, MemoryOrder::C) {
-            Ok(copied) => Held::Made(copied),
-            Err(_) => Held::Kept(from),
-        }
-    }
-
     pub(crate) fn items(&self) -> Items<'_>
         ensures descr { result.descr.now ≡ held_descr self.now }
         ensures shape { result.layout.now.shape ≡ held_shape self.now }
@@ -41,4 +26,17 @@ impl<'a> Held<'a> {
             Held::Made(owned) => owned.items(),
         }
     }
+}
+
+/// Whether a cast keeps the bytes of the items of a block: whether both types are stored in the
+/// same way.
+pub fn keeps_items(block: &RawBlock, from: &Descr, to: &Descr) -> bool
+    ensures alike { IsTrue result → AreAlike from.now to.now }
+    ensures known { AreAlike from.now to.now → IsTrue result }
+    ensures items { IsTrue result → (offset : ℕ) → offset + item_size from.now ≤ length block.now
+        → cast_item from.now to.now (item_from from.now block.now offset)
+        ≡ item_from to.now block.now offset }
+{
+    note_slice(block.bytes());
+    are_alike(from, to)
 }

@@ -1,8 +1,8 @@
 -- One leaf of many items, written to its place in each row.
 use Rattle.std.specs.Prelude.{◌≡◌, ◌+◌, ◌*◌, ◌≤◌, ℕ, zero, suc, List, length}
 use Rattle.elementwise.specs.Words.{put, Side, item_in}
-use Rattle.elementwise.specs.declared.leaf_casts.Places.{Places}
-use Rattle.elementwise.specs.declared.leaf_casts.Column.{Column}
+use Rattle.elementwise.specs.declared.kernels.leaf_casts.Places.{Places}
+use Rattle.elementwise.specs.declared.kernels.leaf_casts.Column.{Column}
 
 -- rows of `row` bytes, after the first `n` leaves are written, each at the offset `at` in its row
 abbrev pub with_leaves : (ℕ → List ℕ) → ℕ → ℕ → ℕ → List ℕ → List ℕ

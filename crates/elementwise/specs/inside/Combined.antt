@@ -3,7 +3,7 @@ use Rattle.std.specs.Prelude.{◌≡◌, ◌≤◌, true, List, ◌∷◌, [], m
 use Rattle.elementwise.specs.Words.{Descr, LeafValue, Comparison, size, item_from, Items, Run, offsets, run_offsets, Owned, ScalarDescr, BoolScalar, value_in}
 use Rattle.elementwise.specs.Casts.{can_cast, cast_item}
 use Rattle.elementwise.specs.Results.{compared_item, pairwise, items_stretched}
-use Rattle.elementwise.specs.declared.operands.Broadcast.{Broadcast}
+use Rattle.elementwise.specs.declared.loops.row_pairs.Broadcast.{Broadcast}
 use Rattle.elementwise.specs.declared.pairing.Pairing.{Pairing}
 use Rattle.elementwise.specs.inside.Made.{IsMade}
 use Rattle.elementwise.specs.inside.Works.{left_of, right_of, target_of, gives, CanPair}

@@ -7,7 +7,7 @@ use Rattle.elementwise.specs.inside.Added.{AreAdded}
 use Rattle.elementwise.specs.inside.Made.{IsMade}
 use Rattle.elementwise.specs.inside.Works.{left_of, right_of, target_of, gives, CanPair}
 use Rattle.elementwise.specs.declared.pairing.Pairing.{Pairing}
-use Rattle.elementwise.specs.declared.row_pairs.Operands.{Operands}
+use Rattle.elementwise.specs.declared.loops.row_pairs.Operands.{Operands}
 
 -- the number of pairs of items
 abbrev pub pairs_of : Operands → ℕ

@@ -2,7 +2,7 @@
 use Rattle.std.specs.Prelude.{◌*◌, ℕ, List}
 use Rattle.elementwise.specs.Words.{item_in, joined}
 use Rattle.elementwise.specs.inside.Added.{AreAdded}
-use Rattle.elementwise.specs.declared.row_pairs.Pairs.{Pairs}
+use Rattle.elementwise.specs.declared.loops.row_pairs.Pairs.{Pairs}
 
 -- the number of pairs
 abbrev pub pair_count : Pairs → ℕ

@@ -5,8 +5,8 @@ use Rattle.elementwise.specs.Promotion.{is_division}
 use Rattle.elementwise.specs.Casts.{can_cast_scalar}
 use Rattle.elementwise.specs.Operations.{binary, unary}
 use Rattle.elementwise.specs.inside.PairPasses.{says_number, compared_value, truth_value, value_pair, Holds}
-use Rattle.elementwise.specs.declared.operations.Work.{Work}
-use Rattle.elementwise.specs.declared.operations.Work.TheVariants.{Combine, Change, Compare, Cast}
+use Rattle.elementwise.specs.declared.pairing.Work.{Work}
+use Rattle.elementwise.specs.declared.pairing.Work.TheVariants.{Combine, Change, Compare, Cast}
 use Rattle.elementwise.specs.declared.pairing.Pairing.{Pairing}
 use Rattle.elementwise.specs.declared.pairing.Pairing.TheVariants.{Alike, Signs, Texts}
 
