@@ -32,11 +32,6 @@ abbrev pub lead : ℕ → List ℕ → List ℕ
 lead zero separator = []
 lead (suc k) separator = separator
 
--- a text, repeated `n` times
-abbrev pub repeated : List ℕ → ℕ → List ℕ
-repeated text zero = []
-repeated text (suc n) = repeated text n ++ text
-
 -- the widths of the leaves of items that begin at these offsets, in an array with axes
 abbrev pub widths_at : Descr → List ℕ → List ℕ → List ℕ
 widths_at descr block offsets = leaf_widths (leaves_of descr) (map (leaf_texts (leaves_of descr)) (items_from descr block offsets))
