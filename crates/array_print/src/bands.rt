@@ -1,10 +1,11 @@
 //! A text that is sent while it is made. Of a long one, no more than its room is held.
-ghost use Rattle.std.specs.Prelude.{List, OnErr, OnOk, [], length, vec_capacity, ℕ, ◌++◌, ◌<◌, ◌≡◌, ◌≤◌};
-ghost use Rattle.array_print.specs.Clauses.{Memory, WriteOut, Appends};
+ghost use Rattle.std.specs.Prelude.{IfSome, IsTrue, List, OnErr, OnOk, [], drop, false, length, ℕ, ◌++◌, ◌<◌, ◌≡◌, ◌≤◌};
+ghost use Rattle.array_print.specs.Clauses.{Appends, Memory, WriteOut};
 ghost use Rattle.array_print.specs.inside.Pushed.{Pushes};
 
 use std::alloc::AllocError;
 use std::io::Write;
+use std::mem::replace;
 use thiserror::Error;
 
 /// A write failed or took nothing.
@@ -53,28 +54,71 @@ pub fn send<W: Write>(writer: &mut W, bytes: &[u8]) -> Result<(), WriteFault>
     Ok(())
 }
 
+/// A text that is made. What there is no room for is sent.
+#[derive(Drop)]
+pub struct Room {
+    pub text: Vec<u8>,
+    /// Whether nothing was sent since a mark.
+    pub whole: bool,
+    /// Room for a text that is repeated.
+    pub kept: Vec<u8>,
+}
+
 /// Appends bytes to an empty text. If they are more than its room, they are sent at once.
-fn push_first<W: Write>(writer: &mut W, out: &mut Vec<u8>, bytes: &[u8]) -> Result<(), WriteFault>
-    requires { out.old.items ≡ [] }
+fn push_first<W: Write>(writer: &mut W, out: &mut Room, bytes: &[u8]) -> Result<(), WriteFault>
+    requires empty { out.old.text.items ≡ [] }
+    requires sent { out.old.whole ≡ false }
     ensures { Pushes bytes.now result (W.contents writer.old) (W.contents writer.new) out.old out.new }
 {
-    if out.capacity() < bytes.len() {
+    if out.text.capacity() < bytes.len() {
         return send(writer, bytes);
     }
-    out.extend_from_slice(bytes).unwrap();
+    out.text.extend_from_slice(bytes).unwrap();
     Ok(())
 }
 
 /// Appends bytes to the text that is held. If there is no room for them, it is sent first. No memory
 /// is asked for.
-pub fn push<W: Write>(writer: &mut W, out: &mut Vec<u8>, bytes: &[u8]) -> Result<(), WriteFault>
+pub fn push<W: Write>(writer: &mut W, out: &mut Room, bytes: &[u8]) -> Result<(), WriteFault>
     ensures { Pushes bytes.now result (W.contents writer.old) (W.contents writer.new) out.old out.new }
 {
-    if out.capacity().saturating_sub(out.len()) >= bytes.len() {
-        out.extend_from_slice(bytes).unwrap();
+    if out.text.capacity().saturating_sub(out.text.len()) >= bytes.len() {
+        out.text.extend_from_slice(bytes).unwrap();
         return Ok(());
     }
-    send(writer, out.as_slice())?;
-    out.clear();
+    out.whole = false;
+    send(writer, out.text.as_slice())?;
+    out.text.clear();
     push_first(writer, out, bytes)
+}
+
+impl Room {
+    /// The text from `from` on, if nothing was sent since a mark, and there is room to keep it.
+    pub fn keep(&mut self, from: usize) -> Option<Vec<u8>>
+        requires { IsTrue self.old.whole → from ≤ length self.old.text.items }
+        ensures kept { IfSome result (λ kept. IsTrue self.old.whole
+            × (kept.items ≡ drop from self.old.text.items)) }
+        ensures text { self.new.text ≡ self.old.text }
+        ensures whole { self.new.whole ≡ self.old.whole }
+    {
+        if !self.whole || self.kept.capacity() < self.text.len() - from {
+            return None;
+        }
+        let empty = Vec::new(*self.kept.allocator());
+        let mut kept = replace(&mut self.kept, empty);
+        kept.clear();
+        kept.extend_from_slice(&self.text.as_slice()[from..])
+            .unwrap();
+        Some(kept)
+    }
+
+    /// Takes back room in which a text was kept.
+    pub fn give_back(&mut self, kept: Option<Vec<u8>>)
+        ensures text { self.new.text ≡ self.old.text }
+        ensures whole { self.new.whole ≡ self.old.whole }
+    {
+        if let Some(kept) = kept {
+            self.kept = kept;
+        }
+    }
 }

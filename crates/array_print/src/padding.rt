@@ -2,13 +2,13 @@
 ghost use Rattle.std.specs.Prelude.{◌≡◌, ◌≤◌, codes, replicate};
 ghost use Rattle.array_print.specs.Clauses.{Pushes, separator, right_justified, record_end, lead};
 
-use crate::bands::{WriteFault, push};
+use crate::bands::{Room, WriteFault, push};
 use std::io::Write;
 
 /// Appends `n` copies of a byte.
 fn push_repeated<W: Write>(
     writer: &mut W,
-    out: &mut Vec<u8>,
+    out: &mut Room,
     byte: u8,
     n: usize,
 ) -> Result<(), WriteFault>
@@ -24,7 +24,7 @@ fn push_repeated<W: Write>(
 /// Appends `n` copies of a byte at once.
 pub fn push_few<W: Write>(
     writer: &mut W,
-    out: &mut Vec<u8>,
+    out: &mut Room,
     byte: u8,
     n: usize,
 ) -> Result<(), WriteFault>
@@ -40,7 +40,7 @@ pub fn push_few<W: Write>(
 /// the first.
 pub fn push_lead<W: Write>(
     writer: &mut W,
-    out: &mut Vec<u8>,
+    out: &mut Room,
     k: usize,
     brackets: usize,
     inner: usize,
@@ -59,7 +59,7 @@ pub fn push_lead<W: Write>(
 /// Appends what comes between two blocks of an axis that has `inner` axes inside it.
 fn push_separator<W: Write>(
     writer: &mut W,
-    out: &mut Vec<u8>,
+    out: &mut Room,
     brackets: usize,
     inner: usize,
 ) -> Result<(), WriteFault>
@@ -78,7 +78,7 @@ fn push_separator<W: Write>(
 /// Appends a text, padded on the left to a width.
 pub fn push_padded<W: Write>(
     writer: &mut W,
-    out: &mut Vec<u8>,
+    out: &mut Room,
     text: &str,
     width: usize,
 ) -> Result<(), WriteFault>

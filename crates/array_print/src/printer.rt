@@ -7,15 +7,16 @@ ghost use Rattle.array_print.specs.inside.ItemTexts.{AreItemsAt, IsItemAt, part_
 ghost use Rattle.array_print.specs.inside.Parts.{LeadsOn};
 ghost use Rattle.array_print.specs.inside.Pushed.{Pushes};
 
-use crate::axes::{past_ones, step_along};
-use crate::bands::{PrintFault, WriteFault, push};
+use crate::axes::{past_ones, repeats, step_along};
+use crate::bands::{PrintFault, Room, WriteFault, push};
 use crate::padding::{comma, push_few, push_lead, record_end};
-use crate::tuning::ROOM;
+use crate::tuning::{LONG_ROOM, ROOM, SHORT_ITEM};
 use crate::values::push_value;
 use crate::widths::widths_of;
 use elem_descr::{Descr, Field};
 use shape_strides::Layout;
 use std::io::Write;
+use std::mem::replace;
 
 /// Items of one descriptor in a block of bytes, the layout of an array of them, and the widths to
 /// which the texts of their values are padded.
@@ -37,7 +38,7 @@ pub struct Item<'a> {
 /// Appends the text of the `k`-th value of an item.
 fn push_leaf<W: Write>(
     writer: &mut W,
-    out: &mut Vec<u8>,
+    out: &mut Room,
     item: Item<'_>,
     k: usize,
 ) -> Result<(), WriteFault>
@@ -59,7 +60,7 @@ fn push_leaf<W: Write>(
 #[cycle(fields)]
 fn push_field<W: Write>(
     writer: &mut W,
-    out: &mut Vec<u8>,
+    out: &mut Room,
     item: Item<'_>,
     descr: &Descr,
     k: usize,
@@ -86,7 +87,7 @@ fn push_field<W: Write>(
 #[cycle(fields)]
 fn push_record<W: Write>(
     writer: &mut W,
-    out: &mut Vec<u8>,
+    out: &mut Room,
     item: Item<'_>,
     fields: &[Field],
     k: usize,
@@ -111,7 +112,7 @@ fn push_record<W: Write>(
 }
 
 /// Appends the text of one item.
-fn push_item<W: Write>(writer: &mut W, out: &mut Vec<u8>, item: Item<'_>) -> Result<(), WriteFault>
+fn push_item<W: Write>(writer: &mut W, out: &mut Room, item: Item<'_>) -> Result<(), WriteFault>
     requires { IsItemAt item.items item.offset }
     ensures { Pushes (text_at item.entry.items item.entry.offset) result
         (W.contents writer.old) (W.contents writer.new) out.old out.new }
@@ -127,7 +128,7 @@ fn push_item<W: Write>(writer: &mut W, out: &mut Vec<u8>, item: Item<'_>) -> Res
 /// over at once.
 fn push_block<W: Write>(
     writer: &mut W,
-    out: &mut Vec<u8>,
+    out: &mut Room,
     items: &Items<'_>,
     axis: usize,
     offset: usize,
@@ -148,13 +149,37 @@ fn push_block<W: Write>(
         return push_item(writer, out, Item { items, offset });
     }
     let strides = items.layout.strides.as_slice();
+    let mut kept: Option<Vec<u8>> = None;
     push(writer, out, b"[")?;
     for k in 0..lengths[axis] {
         push_lead(writer, out, k, axis, lengths.len() - axis - 1)?;
+        if let Some(text) = &kept {
+            push(writer, out, text.as_slice())?;
+            continue;
+        }
+        let from = out.text.len();
+        let before = out.whole;
+        out.whole = true;
         let block = step_along(offset, strides, axis, k);
         push_block(writer, out, items, axis + 1, block)?;
+        if repeats(strides, axis) {
+            kept = out.keep(from);
+        }
+        out.whole = before && out.whole;
     }
+    out.give_back(kept);
     push(writer, out, b"]")
+}
+
+/// The room for a text.
+fn room_for(layout: &Layout, descr: &Descr) -> usize
+    ensures { 4 * 65536 ≤ result }
+{
+    if descr.size() > SHORT_ITEM && layout.strides.as_slice().contains(&0) {
+        LONG_ROOM
+    } else {
+        ROOM
+    }
 }
 
 /// Appends the text of an array whose items are at the layout's offsets in a block. What there is no
@@ -187,12 +212,23 @@ pub fn print_by_bands<W: Write>(
         return Ok(out.extend_from_slice(b"[]")?);
     }
     let widths = widths_of(*out.allocator(), block, layout, descr)?;
-    out.reserve(ROOM)?;
+    let room = room_for(layout, descr);
+    let mut kept = Vec::new(*out.allocator());
+    kept.reserve(room)?;
+    out.reserve(room)?;
     let items = Items {
         descr,
         block,
         layout,
         widths: widths.as_slice(),
     };
-    Ok(push_block(writer, out, &items, 0, layout.offset)?)
+    let empty = Vec::new(*out.allocator());
+    let mut room = Room {
+        text: replace(out, empty),
+        whole: true,
+        kept,
+    };
+    let printed = push_block(writer, &mut room, &items, 0, layout.offset);
+    *out = room.text;
+    Ok(printed?)
 }

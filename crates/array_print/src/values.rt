@@ -2,7 +2,7 @@
 ghost use Rattle.std.specs.Prelude.{◌≡◌, ◌<◌, length};
 ghost use Rattle.array_print.specs.Clauses.{Pushes, size, decode, without_nuls, hex_digit, escaped, stands_for_itself, byte_string_text, leaf_text, right_justified, IsWidth};
 
-use crate::bands::{WriteFault, push};
+use crate::bands::{Room, WriteFault, push};
 use crate::padding::push_padded;
 use elem_descr::{Scalar, num_read};
 use itoa::Buffer;
@@ -24,7 +24,7 @@ fn stands_for_itself(byte: u8) -> bool
 }
 
 /// Appends a byte of a byte string: as itself, or escaped.
-fn push_escaped<W: Write>(writer: &mut W, out: &mut Vec<u8>, byte: u8) -> Result<(), WriteFault>
+fn push_escaped<W: Write>(writer: &mut W, out: &mut Room, byte: u8) -> Result<(), WriteFault>
     ensures { Pushes (escaped byte) result (W.contents writer.old) (W.contents writer.new)
         out.old out.new }
 {
@@ -49,7 +49,7 @@ fn without_nuls(bytes: &[u8]) -> &[u8]
 /// Appends the text of a byte string, without the NULs at its end.
 fn push_byte_string<W: Write>(
     writer: &mut W,
-    out: &mut Vec<u8>,
+    out: &mut Room,
     bytes: &[u8],
 ) -> Result<(), WriteFault>
     ensures { Pushes (byte_string_text (without_nuls bytes.now)) result (W.contents writer.old)
@@ -65,7 +65,7 @@ fn push_byte_string<W: Write>(
 /// Appends the text of a value, padded on the left to a width.
 pub fn push_value<W: Write>(
     writer: &mut W,
-    out: &mut Vec<u8>,
+    out: &mut Room,
     scalar: &Scalar,
     width: usize,
     bytes: &[u8],

@@ -1,9 +1,8 @@
 use Rattle.std.proofs.Common.{◌≡◌, zero, suc, refl, ◌+◌, ◌<◌, ◌++◌, ℕ, List, [], ◌∷◌, codes, get_or, length, take, drop, sym, subst, ap, ◌∙◌, append_assoc, arith, rules, take_all}
-use Rattle.array_print.proofs.Words.{Sends, SendsPart, part-then, sends-more, drop-drop, get_or_default, IfOk-weaker, Descr, Field, Structure, total, fields_of, listed, leaf_count, leaves_of, weight, rest_at, weight-one, leaf_count-before, length-leaves_from, RecordDescr, record_end, field_texts, structure_text, in_parentheses, first_text, texts_at}
+use Rattle.array_print.proofs.Words.{SendsPart, drop-drop, get_or_default, IfOk-weaker, Descr, Field, Structure, total, fields_of, listed, leaf_count, leaves_of, weight, rest_at, weight-one, leaf_count-before, length-leaves_from, RecordDescr, record_end, field_texts, structure_text, in_parentheses, first_text, texts_at}
 use Rattle.elem_descr.specs.DescriptorLaws.{seen_fields}
-use Rattle.array_print.specs.inside.Pushed.{Pushes}
 use Rattle.array_print.proofs.LeafLaws.{field_texts-before, length-field_texts}
-use Rattle.array_print.proofs.PushLaws.{failed}
+use Rattle.array_print.proofs.PushLaws.{failed, held-more, held-same, part-after, pushes-same}
 use Rattle.array_print.proofs.RecordLaws.{cut, cut-before, cut-within, sent-more, whole-record}
 use Rattle.array_print.proofs.printer.+fields.Goals as goal
 
@@ -34,14 +33,14 @@ push_field-returns-in_err-push_leaf-in-Scalar-clause-text g t c =
     let text = first-left texts c.args.k ∙ sym (ap (λ d. structure_text d (drop c.args.k texts)) c.in-Scalar.is) in
     record {
       ok = search rules;
-      err = failed _ (subst (λ t. SendsPart (g.W.Write.contents c.args.writer.now) (g.W.Write.contents c.push_leaf.new.writer) (c.args.out.now.items ++ t)) text c.in_err-push_leaf-in-Scalar.ensures.err);
+      err = failed _ (subst (λ t. SendsPart (g.W.Write.contents c.args.writer.now) (g.W.Write.contents c.push_leaf.new.writer) (c.args.out.now.text.items ++ t)) text c.in_err-push_leaf-in-Scalar.ensures.err);
       room = omega arith;
     }
 
 pub push_field-returns-in-Record-clause-text : goal.push_field-returns-in-Record-clause-text
 push_field-returns-in-Record-clause-text g t c =
     let texts = drop c.args.k (texts_at c.args.item.items.descr.now c.args.item.items.widths.now c.args.item.items.block.now c.args.item.offset) in
-    subst (λ text. Pushes text c.push_record.result (g.W.Write.contents c.args.writer.now) (g.W.Write.contents c.push_record.new.writer) c.args.out.now c.push_record.new.out) (field-text c.args.descr.now c.in-Record.inner c.fields.result.now texts c.in-Record.is c.fields.ensures.value) c.push_record.ensures.text
+    pushes-same (field-text c.args.descr.now c.in-Record.inner c.fields.result.now texts c.in-Record.is c.fields.ensures.value) c.push_record.ensures.text
 
 pub push_field-returns-in-Record-clause-next : goal.push_field-returns-in-Record-clause-next
 push_field-returns-in-Record-clause-next g t c =
@@ -77,7 +76,7 @@ pub push_record-returns-in_err-push-clause-text : goal.push_record-returns-in_er
 push_record-returns-in_err-push-clause-text g t c =
     let leaves = texts_at c.args.item.items.descr.now c.args.item.items.widths.now c.args.item.items.block.now c.args.item.offset in
     let texts = field_texts (listed c.args.fields.now) (drop c.args.k leaves) in
-    record { ok = search rules; err = failed _ (cut _ c.args.out.now.items texts _ 0 (omega arith) c.in_err-push.ensures.err); room = omega arith }
+    record { ok = search rules; err = failed _ (cut texts _ _ c.args.out.now.text.items 0 (omega arith) c.in_err-push.ensures.err); room = omega arith }
 
 pub push_record-returns-in_err-push-2-clause-text : goal.push_record-returns-in_err-push-2-clause-text
 push_record-returns-in_err-push-2-clause-text g t c =
@@ -85,8 +84,8 @@ push_record-returns-in_err-push-2-clause-text g t c =
     let texts = field_texts (listed c.args.fields.now) (drop c.args.k leaves) in
     let field = c.index-fields-i.result in
     let below : c.loop-i.i < length texts = omega (arith, c.loop-i-test.true, length-field_texts c.args.fields.now (drop c.args.k leaves)) in
-    let led = subst (λ t. SendsPart (g.W.Write.contents c.loop-i.writer) (g.W.Write.contents c.push-in-loop-i.new.writer) (c.loop-i.out.items ++ t)) c.comma.ensures c.in_err-push-2.ensures.err in
-    record { ok = search rules; err = failed _ (cut-before _ c.args.out.now.items texts _ c.loop-i.i _ below c.loop-i.invariant.sent _ led); room = omega arith }
+    let led = subst (λ t. SendsPart (g.W.Write.contents c.loop-i.writer) (g.W.Write.contents c.push-in-loop-i.new.writer) (c.loop-i.out.text.items ++ t)) c.comma.ensures c.in_err-push-2.ensures.err in
+    record { ok = search rules; err = failed _ (cut-before texts c.loop-i.i below c.loop-i.invariant.sent _ led); room = omega arith }
 
 pub push_record-returns-in_err-leaf-clause-text : goal.push_record-returns-in_err-leaf-clause-text
 push_record-returns-in_err-leaf-clause-text g t c =
@@ -95,8 +94,8 @@ push_record-returns-in_err-leaf-clause-text g t c =
     let field = c.index-fields-i.result in
     let below : c.loop-i.i < length texts = omega (arith, c.loop-i-test.true, length-field_texts c.args.fields.now (drop c.args.k leaves)) in
     let parts = parted texts _ c.loop-i.i _ below (unread-more c.args.fields.now field c.loop-i.i c.loop-i.leaf texts leaves c.loop-i-test.true c.index-fields-i.is c.loop-i.invariant.unread) in
-    let led = subst (λ t. Sends (g.W.Write.contents c.loop-i.writer) (g.W.Write.contents c.push-in-loop-i.new.writer) c.push-in-loop-i.new.out.items (c.loop-i.out.items ++ t)) c.comma.ensures c.in_ok-push-2.ensures.ok in
-    record { ok = search rules; err = failed _ (cut-within _ c.args.out.now.items texts _ c.loop-i.i _ below c.loop-i.invariant.sent _ _ _ _ led parts.0 c.in_err-leaf.ensures.text.err); room = omega arith }
+    let led = held-same c.comma.ensures c.in_ok-push-2.ensures.ok in
+    record { ok = search rules; err = failed _ (cut-within texts c.loop-i.i below c.loop-i.invariant.sent _ led parts.0 _ c.in_err-leaf.ensures.text.err); room = omega arith }
 
 pub push_record-loop-i-preserved : goal.push_record-loop-i-preserved
 push_record-loop-i-preserved g t c =
@@ -107,12 +106,11 @@ push_record-loop-i-preserved g t c =
     let here = left c.args.fields.now field c.loop-i.i c.loop-i-test.true c.index-fields-i.is in
     let parts = parted texts _ c.loop-i.i _ below (unread-more c.args.fields.now field c.loop-i.i c.loop-i.leaf texts leaves c.loop-i-test.true c.index-fields-i.is c.loop-i.invariant.unread) in
     let next = c.in_ok-leaf.ensures.next in
-    let led = subst (λ t. Sends (g.W.Write.contents c.loop-i.writer) (g.W.Write.contents c.push-in-loop-i.new.writer) c.push-in-loop-i.new.out.items (c.loop-i.out.items ++ t)) c.comma.ensures c.in_ok-push-2.ensures.ok in
+    let led = held-same c.comma.ensures c.in_ok-push-2.ensures.ok in
     record {
-      sent = sent-more _ c.args.out.now.items texts _ c.loop-i.i _ below c.loop-i.invariant.sent _ _ _ _ led parts.0 _ c.in_ok-leaf.ensures.text.ok;
+      sent = sent-more texts c.loop-i.i below c.loop-i.invariant.sent _ led parts.0 c.in_ok-leaf.ensures.text.ok;
       unread = parts.1 ∙ ap (λ n. field_texts (listed (drop (c.loop-i.i + 1) c.args.fields.now)) (drop n leaves)) (sym next);
       count = omega (arith, here, next, c.loop-i.invariant.count);
-      room = omega arith;
     }
 
 pub push_record-returns-in_err-push-3-clause-text : goal.push_record-returns-in_err-push-3-clause-text
@@ -120,11 +118,11 @@ push_record-returns-in_err-push-3-clause-text g t c =
     let leaves = texts_at c.args.item.items.descr.now c.args.item.items.widths.now c.args.item.items.block.now c.args.item.offset in
     let texts = field_texts (listed c.args.fields.now) (drop c.args.k leaves) in
     let many = length-field_texts c.args.fields.now (drop c.args.k leaves) in
-    let whole = whole-record (g.W.Write.contents c.args.writer.now) c.args.out.now.items texts c.loop-i.i (length c.args.fields.now) (omega (arith, many, c.loop-i-test.false, c.loop-i.auto.i-end)) (omega (arith, many)) in
-    let end = subst (λ t. SendsPart (g.W.Write.contents c.loop-i.writer) (g.W.Write.contents c.push-2.new.writer) (c.loop-i.out.items ++ t)) c.record_end.ensures c.in_err-push-3.ensures.err in
+    let whole = whole-record texts c.loop-i.i (length c.args.fields.now) (omega (arith, many, c.loop-i-test.false, c.loop-i.auto.i-end)) (omega (arith, many)) in
+    let end = subst (λ t. SendsPart (g.W.Write.contents c.loop-i.writer) (g.W.Write.contents c.push-2.new.writer) (c.loop-i.out.text.items ++ t)) c.record_end.ensures c.in_err-push-3.ensures.err in
     record {
       ok = search rules;
-      err = failed _ (subst (λ t. SendsPart (g.W.Write.contents c.args.writer.now) (g.W.Write.contents c.push-2.new.writer) (c.args.out.now.items ++ t)) whole (part-then _ _ _ _ _ _ _ c.loop-i.invariant.sent end));
+      err = failed _ (subst (λ t. SendsPart (g.W.Write.contents c.args.writer.now) (g.W.Write.contents c.push-2.new.writer) (c.args.out.now.text.items ++ t)) whole (part-after c.loop-i.invariant.sent _ _ end));
       room = omega arith;
     }
 
@@ -133,10 +131,6 @@ push_record-returns-clause-text g t c =
     let leaves = texts_at c.args.item.items.descr.now c.args.item.items.widths.now c.args.item.items.block.now c.args.item.offset in
     let texts = field_texts (listed c.args.fields.now) (drop c.args.k leaves) in
     let many = length-field_texts c.args.fields.now (drop c.args.k leaves) in
-    let whole = whole-record (g.W.Write.contents c.args.writer.now) c.args.out.now.items texts c.loop-i.i (length c.args.fields.now) (omega (arith, many, c.loop-i-test.false, c.loop-i.auto.i-end)) (omega (arith, many)) in
-    let end = subst (λ t. Sends (g.W.Write.contents c.loop-i.writer) (g.W.Write.contents c.push-2.new.writer) c.push-2.new.out.items (c.loop-i.out.items ++ t)) c.record_end.ensures c.in_ok-push-3.ensures.ok in
-    record {
-      ok = subst (λ t. Sends (g.W.Write.contents c.args.writer.now) (g.W.Write.contents c.push-2.new.writer) c.push-2.new.out.items (c.args.out.now.items ++ t)) whole (sends-more _ _ _ _ _ _ _ _ c.loop-i.invariant.sent end);
-      err = search rules;
-      room = omega arith;
-    }
+    let whole = whole-record texts c.loop-i.i (length c.args.fields.now) (omega (arith, many, c.loop-i-test.false, c.loop-i.auto.i-end)) (omega (arith, many)) in
+    let end = held-same c.record_end.ensures c.in_ok-push-3.ensures.ok in
+    record { ok = held-same whole (held-more c.loop-i.invariant.sent end); err = search rules; room = omega arith }

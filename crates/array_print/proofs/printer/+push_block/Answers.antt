@@ -1,13 +1,16 @@
-use Rattle.std.proofs.Common.{◌≡◌, ◌+◌, ◌-◌, ◌<◌, ◌≤◌, ◌++◌, ◌∷◌, [], ℕ, pos, ◌+ℤ◌, ◌*ℤ◌, get_or, length, map, drop, replicate, subst, sym, ap, ◌∙◌, arith, rules}
-use Rattle.array_print.proofs.Words.{block_text, drop_all, item_size, part_offsets, shown, sends-more, part-longer, part-then, SendsPart}
-use Rattle.array_print.specs.inside.Pushed.{Pushes}
+use Rattle.std.proofs.Common.{IfSome, IsTrue, Vec, false, refl, ◌≡◌, ◌+◌, ◌-◌, ◌<◌, ◌≤◌, ◌++◌, ◌∷◌, [], ℕ, pos, ◌+ℤ◌, ◌*ℤ◌, get_or, length, map, drop, replicate, subst, sym, ap, ◌∙◌, arith, rules}
+use Rattle.array_print.proofs.Words.{Global, block_text, drop_all, drop_at, item_size, part_offsets, shown, part-longer, SendsPart}
+use Rattle.std.proofs.lemmas.Bool.{false≢true}
+use Rattle.std.proofs.lemmas.Option.{IfSome_then}
+use Rattle.array_print.specs.declared.bands.Room.{Room}
 use Rattle.array_print.proofs.PrintLaws.{opened-end}
-use Rattle.array_print.proofs.PushLaws.{failed}
+use Rattle.array_print.proofs.PushLaws.{failed, held-more, held-marked, held-same, part-after, pushes-same}
 use Rattle.array_print.proofs.PushLaws as pushed
 use Rattle.array_print.proofs.BandLaws.{cut, cut-before, cut-within, sent-more}
 use Rattle.array_print.proofs.OneLaws.{ones-part, ones-text}
-use Rattle.array_print.proofs.PartLaws.{part-leads, part-inner, part-item, part-item-inside}
+use Rattle.array_print.proofs.PartLaws.{stays, part-leads, part-inner, part-item, part-item-inside}
 use Rattle.array_print.proofs.printer.+push_block.Goals as goal
+use Rattle.array_print.proofs.printer.+push_block.Goals.{then-repeats, else-repeats, then-before, else-before}
 
 -- the axes that are passed over have length 1
 pub push_block-requires : goal.push_block-requires
@@ -49,9 +52,9 @@ returns-then-next-axis g t c =
     let passed : c.args.axis + (next - c.args.axis) ≡ next = omega (arith, c.past_ones-next.ensures.from) in
     let ones : (k : ℕ) → c.args.axis ≤ k → k < next → get_or l.shape k 0 ≡ 1 = λ k from to. ap (λ s. get_or s k 0) (sym c.as_slice-lengths.ensures.value) ∙ c.past_ones-next.ensures.ones k from to in
     let text = ones-text l c.args.offset (length c.args.items.now.block.now) (item_size c.args.items.now.descr.now) f (next - c.args.axis) c.args.axis next passed within ones c.requires.part in
-    let opened = sends-more _ _ _ _ _ _ _ _ c.in_ok-push_few.ensures.ok c.in_ok-push_block.ensures.ok in
-    subst (λ t. Pushes t c.push_few-then-next-axis.result (g.W.Write.contents c.args.writer.now) (g.W.Write.contents c.push_few-then-next-axis.new.writer) c.args.out.now c.push_few-then-next-axis.new.out) (sym text)
-    (pushed.then c.push_few-then-next-axis.result c.push_block.new.out _ _ opened (omega arith) c.push_few-then-next-axis.ensures)
+    let opened = held-more c.in_ok-push_few.ensures.ok c.in_ok-push_block.ensures.ok in
+    pushes-same (sym text)
+    (pushed.then opened c.push_few-then-next-axis.ensures)
 
 pub returns-in_err-push_few : goal.returns-in_err-push_few
 returns-in_err-push_few g t c =
@@ -62,10 +65,10 @@ returns-in_err-push_few g t c =
     let passed : c.args.axis + (next - c.args.axis) ≡ next = omega (arith, c.past_ones-next.ensures.from) in
     let ones : (k : ℕ) → c.args.axis ≤ k → k < next → get_or l.shape k 0 ≡ 1 = λ k from to. ap (λ s. get_or s k 0) (sym c.as_slice-lengths.ensures.value) ∙ c.past_ones-next.ensures.ones k from to in
     let text = ones-text l c.args.offset (length c.args.items.now.block.now) (item_size c.args.items.now.descr.now) f (next - c.args.axis) c.args.axis next passed within ones c.requires.part in
-    let part = part-longer _ _ c.args.out.now.items _ (replicate (next - c.args.axis) 93) (part-longer _ _ c.args.out.now.items _ (block_text next (drop next l.shape) (map f (part_offsets l next c.args.offset))) c.in_err-push_few.ensures.err) in
+    let part = part-longer _ _ c.args.out.now.text.items _ (replicate (next - c.args.axis) 93) (part-longer _ _ c.args.out.now.text.items _ (block_text next (drop next l.shape) (map f (part_offsets l next c.args.offset))) c.in_err-push_few.ensures.err) in
     record {
       ok = search rules;
-      err = failed _ (subst (λ t. SendsPart (g.W.Write.contents c.args.writer.now) (g.W.Write.contents c.push_few.new.writer) (c.args.out.now.items ++ t)) (sym text) part);
+      err = failed _ (subst (λ t. SendsPart (g.W.Write.contents c.args.writer.now) (g.W.Write.contents c.push_few.new.writer) (c.args.out.now.text.items ++ t)) (sym text) part);
       room = omega arith;
     }
 
@@ -78,10 +81,10 @@ returns-in_err-push_block g t c =
     let passed : c.args.axis + (next - c.args.axis) ≡ next = omega (arith, c.past_ones-next.ensures.from) in
     let ones : (k : ℕ) → c.args.axis ≤ k → k < next → get_or l.shape k 0 ≡ 1 = λ k from to. ap (λ s. get_or s k 0) (sym c.as_slice-lengths.ensures.value) ∙ c.past_ones-next.ensures.ones k from to in
     let text = ones-text l c.args.offset (length c.args.items.now.block.now) (item_size c.args.items.now.descr.now) f (next - c.args.axis) c.args.axis next passed within ones c.requires.part in
-    let part = part-longer _ _ c.args.out.now.items _ (replicate (next - c.args.axis) 93) (part-then _ _ _ _ _ _ _ c.in_ok-push_few.ensures.ok c.in_err-push_block.ensures.err) in
+    let part = part-longer _ _ c.args.out.now.text.items _ (replicate (next - c.args.axis) 93) (part-after c.in_ok-push_few.ensures.ok _ _ c.in_err-push_block.ensures.err) in
     record {
       ok = search rules;
-      err = failed _ (subst (λ t. SendsPart (g.W.Write.contents c.args.writer.now) (g.W.Write.contents c.push_block.new.writer) (c.args.out.now.items ++ t)) (sym text) part);
+      err = failed _ (subst (λ t. SendsPart (g.W.Write.contents c.args.writer.now) (g.W.Write.contents c.push_block.new.writer) (c.args.out.now.text.items ++ t)) (sym text) part);
       room = omega arith;
     }
 
@@ -89,7 +92,7 @@ pub returns-in_err-push : goal.returns-in_err-push
 returns-in_err-push g t c =
     let l = c.args.items.now.layout.now in
     let below : c.args.axis < length l.shape = omega (arith, c.if-axis-lengths.false, ap length c.as_slice-lengths.ensures.value, c.requires.part.axes) in
-    record { ok = search rules; err = failed _ (cut _ l c.args.axis c.args.offset _ c.args.out.now.items below _ 0 (omega arith) c.in_err-push.ensures.err); room = omega arith }
+    record { ok = search rules; err = failed _ (cut _ l c.args.axis c.args.offset below _ _ c.args.out.now.text.items 0 (omega arith) c.in_err-push.ensures.err); room = omega arith }
 
 pub returns-in_err-push_lead : goal.returns-in_err-push_lead
 returns-in_err-push_lead g t c =
@@ -98,7 +101,7 @@ returns-in_err-push_lead g t c =
     let low : c.loop-k.k < get_or l.shape c.args.axis 0 = omega (arith, c.loop-k-test.true, c.loop-k.auto.k-end, ap (λ s. get_or s c.args.axis 0) c.as_slice-lengths.ensures.value) in
     record {
       ok = search rules;
-      err = failed _ (cut-before _ l c.args.axis c.args.offset _ c.args.out.now.items below _ _ c.loop-k.k _ _ low c.as_slice-lengths.ensures.value c.loop-k.invariant.sent c.in_err-push_lead.ensures.err);
+      err = failed _ (cut-before _ l c.args.axis c.args.offset below c.loop-k.k _ low c.as_slice-lengths.ensures.value c.loop-k.invariant.sent _ c.in_err-push_lead.ensures.err);
       room = omega arith;
     }
 
@@ -110,8 +113,34 @@ returns-in_err-push_block-2 g t c =
     let is : pos c.step_along-block.result ≡ pos c.args.offset +ℤ get_or l.strides c.args.axis (pos 0) *ℤ pos c.loop-k.k = c.step_along-block.ensures ∙ ap (λ s. pos c.args.offset +ℤ get_or s c.args.axis (pos 0) *ℤ pos c.loop-k.k) c.as_slice-strides.ensures in
     record {
       ok = search rules;
-      err = failed _ (cut-within _ l c.args.axis c.args.offset _ c.args.out.now.items below _ _ _ c.loop-k.k c.step_along-block.result _ _ _ _ _ low c.requires.part is c.as_slice-lengths.ensures.value c.loop-k.invariant.sent c.in_ok-push_lead.ensures.ok c.in_err-push_block-2.ensures.err);
+      err = failed _ (cut-within _ l c.args.axis c.args.offset below c.loop-k.k _ low c.as_slice-lengths.ensures.value c.loop-k.invariant.sent c.step_along-block.result _ _ c.requires.part is _ (part-after c.in_ok-push_lead.ensures.ok _ _ c.in_err-push_block-2.ensures.err));
       room = omega arith;
+    }
+
+-- the text that is kept is that of this block
+pub returns-in_err-push-2 : goal.returns-in_err-push-2
+returns-in_err-push-2 g t c =
+    let l = c.args.items.now.layout.now in
+    let below : c.args.axis < length l.shape = omega (arith, c.if-axis-lengths.false, ap length c.as_slice-lengths.ensures.value, c.requires.part.axes) in
+    let low : c.loop-k.k < get_or l.shape c.args.axis 0 = omega (arith, c.loop-k-test.true, c.loop-k.auto.k-end, ap (λ s. get_or s c.args.axis 0) c.as_slice-lengths.ensures.value) in
+    let same = rw c.in-Some.is at c.loop-k.invariant.same in
+    let fault = subst (λ t. SendsPart (g.W.Write.contents c.push_lead.new.writer) (g.W.Write.contents c.push-in-Some.new.writer) (c.push_lead.new.out.text.items ++ t)) (c.as_slice.ensures.value ∙ same.1) c.in_err-push-2.ensures.err in
+    record {
+      ok = search rules;
+      err = failed _ (cut-within _ l c.args.axis c.args.offset below c.loop-k.k _ low c.as_slice-lengths.ensures.value c.loop-k.invariant.sent c.args.offset _ _ c.requires.part (stays _ c.args.offset c.loop-k.k same.0) _ (part-after c.in_ok-push_lead.ensures.ok _ _ fault));
+      room = omega arith;
+    }
+
+pub loop-k-preserved-in-Some : goal.loop-k-preserved-in-Some
+loop-k-preserved-in-Some g t c =
+    let l = c.args.items.now.layout.now in
+    let below : c.args.axis < length l.shape = omega (arith, c.if-axis-lengths.false, ap length c.as_slice-lengths.ensures.value, c.requires.part.axes) in
+    let low : c.loop-k.k < get_or l.shape c.args.axis 0 = omega (arith, c.loop-k-test.true, c.loop-k.auto.k-end, ap (λ s. get_or s c.args.axis 0) c.as_slice-lengths.ensures.value) in
+    let same = rw c.in-Some.is at c.loop-k.invariant.same in
+    record {
+      sent = sent-more _ l c.args.axis c.args.offset below c.loop-k.k _ low c.as_slice-lengths.ensures.value c.loop-k.invariant.sent c.args.offset _ _ c.requires.part (stays _ c.args.offset c.loop-k.k same.0)
+          (held-more c.in_ok-push_lead.ensures.ok (held-same (c.as_slice.ensures.value ∙ same.1) c.in_ok-push-2.ensures.ok));
+      same = c.loop-k.invariant.same;
     }
 
 pub loop-k-preserved : goal.loop-k-preserved
@@ -120,9 +149,27 @@ loop-k-preserved g t c =
     let below : c.args.axis < length l.shape = omega (arith, c.if-axis-lengths.false, ap length c.as_slice-lengths.ensures.value, c.requires.part.axes) in
     let low : c.loop-k.k < get_or l.shape c.args.axis 0 = omega (arith, c.loop-k-test.true, c.loop-k.auto.k-end, ap (λ s. get_or s c.args.axis 0) c.as_slice-lengths.ensures.value) in
     let is : pos c.step_along-block.result ≡ pos c.args.offset +ℤ get_or l.strides c.args.axis (pos 0) *ℤ pos c.loop-k.k = c.step_along-block.ensures ∙ ap (λ s. pos c.args.offset +ℤ get_or s c.args.axis (pos 0) *ℤ pos c.loop-k.k) c.as_slice-strides.ensures in
+    let led = c.push_lead.new.out in
+    let made = c.push_block-in-loop-k.new.out in
+    let new : Room = record { text = c.if-repeats.out.text; whole = c.if-before.out; kept = c.if-repeats.out.kept } in
+    let text-is : c.if-repeats.out.text ≡ made.text = elim c.if-repeats.branch [ then-repeats w ↦ ap (λ o. o.text) w.out-is ∙ w.keep-kept.ensures.text | else-repeats w ↦ ap (λ o. o.text) w.out-is ] in
+    let whole-is : c.if-repeats.out.whole ≡ made.whole = elim c.if-repeats.branch [ then-repeats w ↦ ap (λ o. o.whole) w.out-is ∙ w.keep-kept.ensures.whole | else-repeats w ↦ ap (λ o. o.whole) w.out-is ] in
+    let marks : IsTrue c.if-before.out → IsTrue led.whole × IsTrue made.whole =
+    λ is. elim c.if-before.branch [ then-before w ↦ (w.if-before.true, sym whole-is ∙ sym w.out-is ∙ is) | else-before w ↦ absurd (false≢true (sym w.if-before.false ∙ (sym w.out-is ∙ is))) ] in
+    let text = λ (n : ℕ). block_text (c.args.axis + 1) (drop (c.args.axis + 1) l.shape) (map (shown c.args.items.now.descr.now c.args.items.now.widths.now c.args.items.now.block.now) (part_offsets l (c.args.axis + 1) n)) in
+    let Same = λ (kept : Vec ℕ Global). (get_or l.strides c.args.axis (pos 0) ≡ pos 0) × (kept.items ≡ text c.args.offset) in
     record {
-      sent = sent-more _ l c.args.axis c.args.offset _ _ below _ _ _ c.loop-k.k c.step_along-block.result _ _ _ _ _ low c.requires.part is c.as_slice-lengths.ensures.value c.loop-k.invariant.sent c.in_ok-push_lead.ensures.ok _ c.in_ok-push_block-2.ensures.ok;
-      room = omega arith;
+      sent = sent-more _ l c.args.axis c.args.offset below c.loop-k.k _ low c.as_slice-lengths.ensures.value c.loop-k.invariant.sent c.step_along-block.result _ _ c.requires.part is
+          (held-more c.in_ok-push_lead.ensures.ok (held-marked led new c.in_ok-push_block-2.ensures.ok refl (sym text-is) marks));
+      same = elim c.if-repeats.branch [
+        | then-repeats w ↦
+            let none : get_or l.strides c.args.axis (pos 0) ≡ pos 0 = ap (λ s. get_or s c.args.axis (pos 0)) (sym c.as_slice-strides.ensures) ∙ c.repeats.ensures.0 w.if-repeats.true in
+            let at : pos c.step_along-block.result ≡ pos c.args.offset = is ∙ sym (stays (get_or l.strides c.args.axis (pos 0)) c.args.offset c.loop-k.k none) in
+            let here : c.step_along-block.result ≡ c.args.offset = cc in
+            subst (λ o. IfSome o Same) (sym w.kept-is) (IfSome_then w.keep-kept.result w.keep-kept.ensures.kept
+            (λ kept keeps. (none, keeps.1 ∙ ap (drop c.len-from.result) (c.in_ok-push_block-2.ensures.ok.whole keeps.0).1 ∙ drop_at led.text.items (text c.step_along-block.result) c.len-from.result (omega (arith, c.len-from.ensures)) ∙ ap text here)))
+        | else-repeats w ↦ subst (λ o. IfSome o Same) (sym w.kept-is) c.loop-k.invariant.same
+      ];
     }
 
 pub returns : goal.returns
@@ -132,8 +179,8 @@ returns g t c =
     let offsets = part_offsets l c.args.axis c.args.offset in
     let below : c.args.axis < length l.shape = omega (arith, c.if-axis-lengths.false, ap length c.as_slice-lengths.ensures.value, c.requires.part.axes) in
     let all : c.loop-k.k ≡ get_or l.shape c.args.axis 0 = omega (arith, c.loop-k-test.false, c.loop-k.auto.k-end, ap (λ s. get_or s c.args.axis 0) c.as_slice-lengths.ensures.value) in
-    subst (λ t. Pushes t c.push-2.result (g.W.Write.contents c.args.writer.now) (g.W.Write.contents c.push-2.new.writer) c.args.out.now c.push-2.new.out) (opened-end f l.shape c.args.axis c.loop-k.k offsets below all)
-    (pushed.then c.push-2.result c.loop-k.out _ _ c.loop-k.invariant.sent c.loop-k.invariant.room c.push-2.ensures)
+    pushes-same (opened-end f l.shape c.args.axis c.loop-k.k offsets below all)
+    (pushed.then (held-marked c.args.out.now c.give_back.new.self c.loop-k.invariant.sent refl (sym c.give_back.ensures.text) (λ is. let e = sym c.give_back.ensures.whole ∙ is in ((c.loop-k.invariant.sent.whole e).0, e))) c.push-2.ensures)
 
 pub returns-then-axis-lengths : goal.returns-then-axis-lengths
 returns-then-axis-lengths g t c =
@@ -142,4 +189,4 @@ returns-then-axis-lengths g t c =
     let end : length l.shape ≤ c.args.axis = omega (arith, c.if-axis-lengths.true, ap length c.as_slice-lengths.ensures.value) in
     let text : f c.args.offset ≡ block_text c.args.axis (drop c.args.axis l.shape) (map f (part_offsets l c.args.axis c.args.offset)) =
     sym (ap (λ os. block_text c.args.axis (drop c.args.axis l.shape) (map f os)) (part-item l c.args.axis c.args.offset end) ∙ ap (λ shape. block_text c.args.axis shape (f c.args.offset ∷ [])) (drop_all c.args.axis l.shape end)) in
-    subst (λ t. Pushes t c.push_item.result (g.W.Write.contents c.args.writer.now) (g.W.Write.contents c.push_item.new.writer) c.args.out.now c.push_item.new.out) text c.push_item.ensures
+    pushes-same text c.push_item.ensures

@@ -1,6 +1,6 @@
-use Rattle.std.proofs.Common.{◌≡◌, ◌+◌, ◌<◌, ◌≤◌, ◌++◌, ℕ, List, [], get_or, length, take, drop, sym, subst, ap, ◌∙◌, arith, IfSome, slice_get}
+use Rattle.std.proofs.Common.{◌≡◌, ◌+◌, ◌<◌, ◌≤◌, ◌++◌, ℕ, List, [], get_or, length, take, drop, sym, ap, ◌∙◌, arith, IfSome, slice_get}
 use Rattle.array_print.proofs.Words.{Scalar, Descr, size, decode, item_size, leaves_of, right_justified, leaf_text, AreWidths, texts_at}
-use Rattle.array_print.specs.inside.Pushed.{Pushes}
+use Rattle.array_print.proofs.PushLaws.{pushes-same}
 use Rattle.array_print.proofs.LeafLaws.{bytes-at, count-widths, width-at, text-at}
 use Rattle.array_print.proofs.printer.push_leaf.Goals as goal
 
@@ -21,4 +21,4 @@ push_value-requires-clause-width g c =
 pub returns : goal.returns
 returns g c =
     let text = leaf-text c.args.item.items.descr.now c.args.item.items.widths.now c.args.item.items.block.now c.args.item.offset c.args.k c.leaf_at-scalar.result.1 _ c.leaf_at-scalar.result.0 c.requires.item.widths c.requires.leaf c.leaf_at-scalar.ensures.leaf c.leaf_at-scalar.ensures.within (omega (arith, c.size.ensures.value)) in
-    subst (λ text. Pushes text c.push_value.result (g.W.Write.contents c.args.writer.now) (g.W.Write.contents c.push_value.new.writer) c.args.out.now c.push_value.new.out) text c.push_value.ensures
+    pushes-same text c.push_value.ensures

@@ -1,9 +1,8 @@
 use Rattle.std.proofs.Common.{Option, ◌≡◌, ◌+◌, ◌<◌, ◌++◌, ◌∷◌, ℕ, List, [], codes, flat_map, length, take, drop, get_or, refl, subst, ap, ◌∙◌, sym, append_assoc, arith, rules, take_all, take-append-drop}
 use Rattle.std.proofs.lemmas.Grind.{flat_map-append}
-use Rattle.array_print.proofs.Words.{Sends, SendsPart, append-nil, escaped, take_more, part-longer, part-then, sends-more}
+use Rattle.array_print.proofs.Words.{SendsPart, append-nil, escaped, take_more, part-longer}
 use Rattle.array_print.specs.Words.{without_nuls}
-use Rattle.array_print.specs.inside.Pushed.{Pushes}
-use Rattle.array_print.proofs.PushLaws.{failed}
+use Rattle.array_print.proofs.PushLaws.{failed, held-more, held-same, part-after, pushes-same}
 use Rattle.array_print.proofs.PushLaws as pushed
 use Rattle.array_print.proofs.values.push_byte_string.Goals as goal
 
@@ -28,7 +27,7 @@ cut w w' old bytes k part =
 
 pub returns-in_err-push : goal.returns-in_err-push
 returns-in_err-push g c =
-    let part = cut _ _ c.args.out.now.items (without_nuls c.args.bytes.now) 0 c.in_err-push.ensures.err in
+    let part = cut _ _ c.args.out.now.text.items (without_nuls c.args.bytes.now) 0 c.in_err-push.ensures.err in
     record { ok = search rules; err = failed _ part; room = omega arith }
 
 pub returns-in_err-push_escaped : goal.returns-in_err-push_escaped
@@ -36,9 +35,9 @@ returns-in_err-push_escaped g c =
     let items = c.without_nuls-byte-items.result.now in
     let i = c.loop-byte.byte-index in
     let below : i < length items = omega (arith, c.loop-byte-test.true) in
-    let part = part-then _ _ _ _ _ _ _ c.loop-byte.invariant.sent c.in_err-push_escaped.ensures.err in
-    let more = subst (λ t. SendsPart (g.W.Write.contents c.args.writer.now) (g.W.Write.contents c.push_escaped.new.writer) (c.args.out.now.items ++ t)) (one-more items i (get_or items i 0) below refl) part in
-    let all = subst (λ bs. SendsPart (g.W.Write.contents c.args.writer.now) (g.W.Write.contents c.push_escaped.new.writer) (c.args.out.now.items ++ (codes "b'" ++ flat_map escaped bs ++ codes "'"))) c.without_nuls-byte-items.ensures (cut _ _ c.args.out.now.items items (i + 1) more) in
+    let part = part-after c.loop-byte.invariant _ _ c.in_err-push_escaped.ensures.err in
+    let more = subst (λ t. SendsPart (g.W.Write.contents c.args.writer.now) (g.W.Write.contents c.push_escaped.new.writer) (c.args.out.now.text.items ++ t)) (one-more items i (get_or items i 0) below refl) part in
+    let all = subst (λ bs. SendsPart (g.W.Write.contents c.args.writer.now) (g.W.Write.contents c.push_escaped.new.writer) (c.args.out.now.text.items ++ (codes "b'" ++ flat_map escaped bs ++ codes "'"))) c.without_nuls-byte-items.ensures (cut _ _ c.args.out.now.text.items items (i + 1) more) in
     record { ok = search rules; err = failed _ all; room = omega arith }
 
 pub loop-byte-preserved : goal.loop-byte-preserved
@@ -46,15 +45,10 @@ loop-byte-preserved g c =
     let items = c.without_nuls-byte-items.result.now in
     let i = c.loop-byte.byte-index in
     let below : i < length items = omega (arith, c.loop-byte-test.true) in
-    record {
-      sent = subst (λ t. Sends (g.W.Write.contents c.args.writer.now) (g.W.Write.contents c.push_escaped.new.writer) c.push_escaped.new.out.items (c.args.out.now.items ++ t)) (one-more items i (get_or items i 0) below refl)
-          (sends-more _ _ _ _ _ _ _ _ c.loop-byte.invariant.sent c.in_ok-push_escaped.ensures.ok);
-      room = omega arith;
-    }
+    held-same (one-more items i (get_or items i 0) below refl) (held-more c.loop-byte.invariant c.in_ok-push_escaped.ensures.ok)
 
 pub returns : goal.returns
 returns g c =
     let items = c.without_nuls-byte-items.result.now in
     let all : take c.loop-byte.byte-index items ≡ without_nuls c.args.bytes.now = take_all c.loop-byte.byte-index items (omega (arith, c.loop-byte-test.false)) ∙ c.without_nuls-byte-items.ensures in
-    subst (λ t. Pushes t c.push-2.result (g.W.Write.contents c.args.writer.now) (g.W.Write.contents c.push-2.new.writer) c.args.out.now c.push-2.new.out) (ap (λ bs. (codes "b'" ++ flat_map escaped bs) ++ codes "'") all)
-    (pushed.then c.push-2.result c.loop-byte.out _ _ c.loop-byte.invariant.sent c.loop-byte.invariant.room c.push-2.ensures)
+    pushes-same (ap (λ bs. (codes "b'" ++ flat_map escaped bs) ++ codes "'") all) (pushed.then c.loop-byte.invariant c.push-2.ensures)
