@@ -1,5 +1,5 @@
 -- An axis of an array that is sent, block by block.
-use Rattle.std.proofs.Common.{Option, ◌≡◌, ℕ, ◌+◌, ◌-◌, ◌<◌, ◌≤◌, pos, ◌+ℤ◌, ◌*ℤ◌, List, ◌++◌, codes, map, length, drop, get_or, sym, subst, ◌∙◌, ap, arith}
+use Rattle.std.proofs.Common.{Option, ◌≡◌, ℕ, ◌+◌, ◌-◌, ◌<◌, ◌≤◌, pos, ◌+ℤ◌, ◌*ℤ◌, List, ◌++◌, map, length, drop, get_or, sym, subst, ◌∙◌, ap, arith}
 use Rattle.array_print.proofs.Words.{Layout, block_text, separator, SendsPart, opened, IsPart, part_offsets, lead, part-longer}
 use Rattle.array_print.proofs.PrintLaws.{block_at, opened-next, opened-rest}
 use Rattle.array_print.proofs.PartLaws.{part-block}

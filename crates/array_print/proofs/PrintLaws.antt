@@ -1,6 +1,6 @@
 -- Laws of printed text: blocks, and what joins them.
-use Rattle.std.proofs.Common.{Option, ◌≡◌, ℕ, zero, suc, ◌+◌, ◌-◌, ◌*◌, ◌<◌, ◌≤◌, List, [], ◌∷◌, ◌++◌, codes, map, length, length-append, take_all, take-add, take, drop, slice_range, get_or, refl, sym, ◌∙◌, ap, arith, add-one, suc-mul, zero-mul, append_assoc, length-drop}
-use Rattle.array_print.proofs.Words.{append-nil, take_at, drop_at, take-take, take-map, drop-map, drop-drop, drop-take, drop_more, drop-append-le, take-append-le, count, blocks, join_texts, block_text, separator, lead, opened}
+use Rattle.std.proofs.Common.{◌≡◌, ℕ, zero, suc, ◌+◌, ◌-◌, ◌*◌, ◌<◌, List, ◌++◌, codes, map, length, take, drop, get_or, sym, ◌∙◌, ap, arith, add-one, suc-mul, zero-mul, append_assoc, length-drop}
+use Rattle.array_print.proofs.Words.{take-map, drop-map, drop-drop, drop_more, count, blocks, join_texts, block_text, separator, lead, opened}
 
 -- ---- blocks
 

@@ -1,5 +1,5 @@
 //! A text that is sent while it is made. Of a long one, no more than its room is held.
-ghost use Rattle.std.specs.Prelude.{IfSome, IsTrue, List, OnErr, OnOk, [], drop, false, length, ℕ, ◌++◌, ◌<◌, ◌≡◌, ◌≤◌};
+ghost use Rattle.std.specs.Prelude.{IfSome, IsTrue, List, OnErr, OnOk, [], drop, false, length, ℕ, ◌∷◌, ◌++◌, ◌<◌, ◌≡◌, ◌≤◌};
 ghost use Rattle.array_print.specs.Clauses.{Appends, Memory, WriteOut};
 ghost use Rattle.array_print.specs.inside.Pushed.{Pushes};
 
@@ -90,6 +90,18 @@ pub fn push<W: Write>(writer: &mut W, out: &mut Room, bytes: &[u8]) -> Result<()
     send(writer, out.text.as_slice())?;
     out.text.clear();
     push_first(writer, out, bytes)
+}
+
+/// Appends a byte.
+pub fn push_byte<W: Write>(writer: &mut W, out: &mut Room, byte: u8) -> Result<(), WriteFault>
+    ensures { Pushes (byte ∷ []) result (W.contents writer.old) (W.contents writer.new)
+        out.old out.new }
+{
+    if out.text.len() < out.text.capacity() {
+        out.text.push(byte).unwrap();
+        return Ok(());
+    }
+    push(writer, out, &[byte])
 }
 
 impl Room {

@@ -2,7 +2,7 @@
 ghost use Rattle.std.specs.Prelude.{◌≡◌, ◌≤◌, codes, replicate};
 ghost use Rattle.array_print.specs.Clauses.{Pushes, separator, right_justified, record_end, lead};
 
-use crate::bands::{Room, WriteFault, push};
+use crate::bands::{Room, WriteFault, push, push_byte};
 use std::io::Write;
 
 /// Appends `n` copies of a byte.
@@ -16,7 +16,7 @@ fn push_repeated<W: Write>(
         out.old out.new }
 {
     for _i in 0..n {
-        push(writer, out, &[byte])?;
+        push_byte(writer, out, byte)?;
     }
     Ok(())
 }
@@ -69,7 +69,7 @@ fn push_separator<W: Write>(
         (W.contents writer.new) out.old out.new }
 {
     if inner == 0 {
-        return push(writer, out, b" ");
+        return push_byte(writer, out, b' ');
     }
     push_few(writer, out, b'\n', inner)?;
     push_few(writer, out, b' ', brackets + 1)

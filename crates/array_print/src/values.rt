@@ -2,7 +2,7 @@
 ghost use Rattle.std.specs.Prelude.{◌≡◌, ◌<◌, length};
 ghost use Rattle.array_print.specs.Clauses.{Pushes, size, decode, without_nuls, hex_digit, escaped, stands_for_itself, byte_string_text, leaf_text, right_justified, IsWidth};
 
-use crate::bands::{Room, WriteFault, push};
+use crate::bands::{Room, WriteFault, push, push_byte};
 use crate::padding::push_padded;
 use elem_descr::{Scalar, num_read};
 use itoa::Buffer;
@@ -29,7 +29,7 @@ fn push_escaped<W: Write>(writer: &mut W, out: &mut Room, byte: u8) -> Result<()
         out.old out.new }
 {
     if stands_for_itself(byte) {
-        return push(writer, out, &[byte]);
+        return push_byte(writer, out, byte);
     }
     let escape = [b'\\', b'x', hex_digit(byte / 16), hex_digit(byte % 16)];
     push(writer, out, &escape)

@@ -1,5 +1,5 @@
 -- How parts of an array's text come from its block of bytes.
-use Rattle.std.specs.Prelude.{◌≡◌, ℕ, zero, suc, List, [], ◌++◌, map, drop}
+use Rattle.std.specs.Prelude.{◌≡◌, ℕ, zero, suc, List, [], map, drop}
 use Rattle.std.proofs.Common.{take}
 use Rattle.array_print.specs.Words.{signed_decimal, AllZip, Scalar, Byte, Int, Bytes, Leaf, Descr, size, decode, number_of, leaves_of, item_from, BoolScalar}
 use Rattle.array_print.specs.Printed.{leaf_texts, leaf_widths, all_justified, item_text, items_from}

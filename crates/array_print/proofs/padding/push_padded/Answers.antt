@@ -1,5 +1,5 @@
 use Rattle.std.proofs.Common.{◌≡◌, ◌-◌, ◌++◌, length, replicate, subst, ap, arith, rules}
-use Rattle.array_print.proofs.Words.{SendsPart, part-longer, right_justified}
+use Rattle.array_print.proofs.Words.{SendsPart, part-longer}
 use Rattle.array_print.proofs.PushLaws.{failed, pushes-same}
 use Rattle.array_print.proofs.PushLaws as pushed
 use Rattle.array_print.proofs.padding.push_padded.Goals as goal

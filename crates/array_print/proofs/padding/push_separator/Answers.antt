@@ -1,4 +1,4 @@
-use Rattle.std.proofs.Common.{◌≡◌, ◌≢◌, ◌+◌, ℕ, zero, suc, ◌++◌, replicate, refl, subst, sym, arith, rules}
+use Rattle.std.proofs.Common.{◌≡◌, ◌≢◌, ◌+◌, ℕ, zero, suc, ◌++◌, replicate, refl, subst, arith, rules}
 use Rattle.array_print.proofs.Words.{SendsPart, separator, part-longer}
 use Rattle.array_print.proofs.PushLaws.{failed, pushes-same}
 use Rattle.array_print.proofs.PushLaws as pushed

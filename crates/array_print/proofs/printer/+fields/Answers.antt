@@ -1,5 +1,5 @@
-use Rattle.std.proofs.Common.{◌≡◌, zero, suc, refl, ◌+◌, ◌<◌, ◌++◌, ℕ, List, [], ◌∷◌, codes, get_or, length, take, drop, sym, subst, ap, ◌∙◌, append_assoc, arith, rules, take_all}
-use Rattle.array_print.proofs.Words.{SendsPart, drop-drop, get_or_default, IfOk-weaker, Descr, Field, Structure, total, fields_of, listed, leaf_count, leaves_of, weight, rest_at, weight-one, leaf_count-before, length-leaves_from, RecordDescr, record_end, field_texts, structure_text, in_parentheses, first_text, texts_at}
+use Rattle.std.proofs.Common.{◌≡◌, zero, suc, refl, ◌+◌, ◌<◌, ◌++◌, ℕ, List, [], ◌∷◌, get_or, length, drop, sym, subst, ap, ◌∙◌, arith, rules}
+use Rattle.array_print.proofs.Words.{SendsPart, drop-drop, get_or_default, IfOk-weaker, Descr, Field, Structure, total, fields_of, listed, leaf_count, leaves_of, weight, rest_at, weight-one, leaf_count-before, length-leaves_from, RecordDescr, field_texts, structure_text, in_parentheses, first_text, texts_at}
 use Rattle.elem_descr.specs.DescriptorLaws.{seen_fields}
 use Rattle.array_print.proofs.LeafLaws.{field_texts-before, length-field_texts}
 use Rattle.array_print.proofs.PushLaws.{failed, held-more, held-same, part-after, pushes-same}

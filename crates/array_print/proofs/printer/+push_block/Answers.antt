@@ -1,4 +1,4 @@
-use Rattle.std.proofs.Common.{IfSome, IsTrue, Vec, false, refl, ◌≡◌, ◌+◌, ◌-◌, ◌<◌, ◌≤◌, ◌++◌, ◌∷◌, [], ℕ, pos, ◌+ℤ◌, ◌*ℤ◌, get_or, length, map, drop, replicate, subst, sym, ap, ◌∙◌, arith, rules}
+use Rattle.std.proofs.Common.{IfSome, IsTrue, Vec, refl, ◌≡◌, ◌+◌, ◌-◌, ◌<◌, ◌≤◌, ◌++◌, ◌∷◌, [], ℕ, pos, ◌+ℤ◌, ◌*ℤ◌, get_or, length, map, drop, replicate, subst, sym, ap, ◌∙◌, arith, rules}
 use Rattle.array_print.proofs.Words.{Global, block_text, drop_all, drop_at, item_size, part_offsets, shown, part-longer, SendsPart}
 use Rattle.std.proofs.lemmas.Bool.{false≢true}
 use Rattle.std.proofs.lemmas.Option.{IfSome_then}

@@ -1,4 +1,4 @@
-use Rattle.std.proofs.Common.{◌<◌, ◌≡◌, ◌++◌, subst, ◌∙◌, ap, arith}
+use Rattle.std.proofs.Common.{◌<◌, ◌++◌, subst, ◌∙◌, ap, arith}
 use Rattle.array_print.proofs.Words.{count, Sends, SendsPart}
 use Rattle.array_print.proofs.WholeLaws.{whole-text, whole-items}
 use Rattle.array_print.proofs.printer.print_by_bands.Goals as goal
