@@ -32,6 +32,9 @@ pub fn push_few<W: Write>(
     ensures { Pushes (replicate n byte) result (W.contents writer.old) (W.contents writer.new)
         out.old out.new }
 {
+    if n == 1 {
+        return push_byte(writer, out, byte);
+    }
     let copies = [byte; 65];
     push(writer, out, &copies[..n])
 }
