@@ -176,10 +176,10 @@ fn room_for(layout: &Layout, descr: &Descr) -> usize
     ensures { 4 * 65536 ≤ result }
 {
     if descr.size() > SHORT_ITEM && layout.strides.as_slice().contains(&0) {
-        LONG_ROOM
-    } else {
-        ROOM
+        let bytes = layout.shape.items().saturating_mul(descr.size());
+        return bytes.saturating_mul(4).min(LONG_ROOM).max(ROOM);
     }
+    ROOM
 }
 
 /// Appends the text of an array whose items are at the layout's offsets in a block. What there is no
