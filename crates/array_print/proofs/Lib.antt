@@ -6,5 +6,7 @@ pub mod RepeatLaws
 pub mod OneLaws
 pub mod WholeLaws
 pub mod PrintLaws
+pub mod PushLaws
+pub mod RecordLaws
 pub mod BandLaws
 pub mod Vectors

@@ -1,7 +1,7 @@
 -- Axes of length 1: their brackets stand around the text of what is inside them.
-use Rattle.std.proofs.Common.{◌≡◌, ℕ, zero, suc, ◌+◌, ◌*◌, ◌<◌, ◌≤◌, pos, List, [], ◌∷◌, ◌++◌, codes, map, length, drop, take, replicate, get_or, refl, sym, ◌∙◌, ap, subst, arith, take_all, append_assoc, add-one, zero-mul}
+use Rattle.std.proofs.Common.{◌≡◌, ℕ, zero, suc, ◌+◌, ◌*◌, ◌<◌, ◌≤◌, pos, List, [], ◌∷◌, ◌++◌, codes, map, length, drop, take, replicate, get_or, sym, ◌∙◌, ap, subst, arith, take_all, append_assoc, add-one, zero-mul}
 use Rattle.std.proofs.lemmas.List.{replicate_more}
-use Rattle.array_print.proofs.Words.{append-nil, Layout, count, block_text, separator, opened, lead, IsPart, part_offsets}
+use Rattle.array_print.proofs.Words.{append-nil, Layout, count, block_text, opened, IsPart, part_offsets}
 use Rattle.array_print.proofs.PrintLaws.{opened-next, opened-end}
 use Rattle.array_print.proofs.PartLaws.{at-first, part-some, part-inner, part-block, length-part}
 use Rattle.array_print.proofs.RepeatLaws.{count-outer}

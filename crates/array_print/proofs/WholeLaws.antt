@@ -1,5 +1,5 @@
 -- The whole text of an array, as the block that all its axes lead to.
-use Rattle.std.proofs.Common.{All, length, ◌≤◌, ◌+◌, ◌≡◌, ℕ, List, [], ◌∷◌, cond, codes, map, drop, refl, sym, subst, ◌∙◌, ap, arith, zero, suc, ◌<◌}
+use Rattle.std.proofs.Common.{All, length, ◌≤◌, ◌+◌, ◌≡◌, ℕ, List, cond, codes, map, drop, sym, subst, ◌∙◌, ap, arith, ◌<◌}
 use Rattle.std.proofs.lemmas.Simd.{map-map}
 use Rattle.array_print.proofs.Words.{item_size, ne_eqb, item_from, AreWidths, leaves_of, Descr, Layout, count, offsets, array_text, block_text, item_text, widths, items_from, shown, part_offsets}
 use Rattle.array_print.specs.declared.printer.Items.{Items}

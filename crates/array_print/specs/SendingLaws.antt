@@ -2,7 +2,7 @@
 use Rattle.std.specs.Prelude.{◌≡◌, ℕ, List, [], ◌++◌, Option, drop, length, ◌-◌, ◌≤◌}
 use Rattle.std.proofs.Common.{Some, None, append_assoc, take, take_all, length-drop, arith, refl, ap, sym, ◌∙◌}
 use Rattle.array_print.specs.Words.{append-nil, take-append-drop, Appends}
-use Rattle.array_print.specs.Sending.{Sends}
+use Rattle.array_print.specs.Sending.{Sends, SendsPart}
 
 pub appends_then : (a b c : Option (List ℕ)) (x y : List ℕ) → Appends a b x → Appends b c y → Appends a c (x ++ y)
 appends_then None b c x y p q = tt
@@ -29,3 +29,18 @@ sends-none w text = ([], refl, appends_nothing w)
 pub sends-then : (a b c : Option (List ℕ)) (rest rest' text : List ℕ) → Sends a b rest text → Sends b c rest' rest → Sends a c rest' text
 sends-then a b c rest rest' text first second =
     (first.0 ++ second.0, first.1 ∙ ap (λ t. first.0 ++ t) second.1 ∙ sym (append_assoc first.0 second.0 rest'), appends_then a b c first.0 second.0 first.2 second.2)
+
+-- one text after another
+pub sends-more : (a b c : Option (List ℕ)) (held held' held'' x y : List ℕ) → Sends a b held' (held ++ x) → Sends b c held'' (held' ++ y) → Sends a c held'' (held ++ (x ++ y))
+sends-more a b c held held' held'' x y first second =
+    let grown : Sends a b (held' ++ y) (held ++ (x ++ y)) =
+    (first.0, sym (append_assoc held x y) ∙ ap (λ t. t ++ y) first.1 ∙ append_assoc first.0 held' y, first.2) in
+    sends-then a b c (held' ++ y) held'' (held ++ (x ++ y)) grown second
+
+-- a fault in a text, or in what comes after it
+pub part-longer : (a b : Option (List ℕ)) (held x y : List ℕ) → SendsPart a b (held ++ x) → SendsPart a b (held ++ (x ++ y))
+part-longer a b held x y part =
+    (part.0 ++ y, (part.1.0, sym (append_assoc held x y) ∙ ap (λ t. t ++ y) part.1.1 ∙ append_assoc part.1.0 part.0 y, part.1.2))
+
+pub part-then : (a b c : Option (List ℕ)) (held held' x y : List ℕ) → Sends a b held' (held ++ x) → SendsPart b c (held' ++ y) → SendsPart a c (held ++ (x ++ y))
+part-then a b c held held' x y first part = (part.0, sends-more a b c held held' part.0 x y first part.1)

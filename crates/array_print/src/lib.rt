@@ -9,5 +9,5 @@ mod tuning;
 mod values;
 mod widths;
 
-pub use bands::{PrintFault, WriteFault, print_by_bands, send};
-pub use printer::print_into;
+pub use bands::{PrintFault, WriteFault, send};
+pub use printer::print_by_bands;

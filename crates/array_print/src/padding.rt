@@ -1,132 +1,108 @@
 //! Spaces, separators, and texts padded to a width.
-ghost use Rattle.std.specs.Prelude.{◌≤◌, ◌++◌, codes, length, drop, slice_range, replicate};
-ghost use Rattle.array_print.specs.Clauses.{Pushes, separator, right_justified, record_end, lead, repeated};
+ghost use Rattle.std.specs.Prelude.{◌≡◌, ◌≤◌, codes, replicate};
+ghost use Rattle.array_print.specs.Clauses.{Pushes, separator, right_justified, record_end, lead};
 
-use crate::tuning::COPIED;
-use std::alloc::AllocError;
+use crate::bands::{Room, WriteFault, push, push_byte};
+use std::io::Write;
 
-/// Appends `n` copies of a byte. If memory runs out, some may be past the old end.
-fn push_repeated(out: &mut Vec<u8>, byte: u8, n: usize) -> Result<(), AllocError>
-    ensures { Pushes (replicate n byte) result out.old out.new }
+/// Appends `n` copies of a byte.
+fn push_repeated<W: Write>(
+    writer: &mut W,
+    out: &mut Room,
+    byte: u8,
+    n: usize,
+) -> Result<(), WriteFault>
+    ensures { Pushes (replicate n byte) result (W.contents writer.old) (W.contents writer.new)
+        out.old out.new }
 {
     for _i in 0..n {
-        out.push(byte)?;
+        push_byte(writer, out, byte)?;
     }
     Ok(())
 }
 
 /// Appends `n` copies of a byte at once.
-pub fn push_few(out: &mut Vec<u8>, byte: u8, n: usize) -> Result<(), AllocError>
+pub fn push_few<W: Write>(
+    writer: &mut W,
+    out: &mut Room,
+    byte: u8,
+    n: usize,
+) -> Result<(), WriteFault>
     requires { n ≤ 65 }
-    ensures { Pushes (replicate n byte) result out.old out.new }
+    ensures { Pushes (replicate n byte) result (W.contents writer.old) (W.contents writer.new)
+        out.old out.new }
 {
-    let len = out.len();
-    out.resize(len + n, byte)
+    if n == 1 {
+        return push_byte(writer, out, byte);
+    }
+    let copies = [byte; 65];
+    push(writer, out, &copies[..n])
 }
 
 /// Appends what comes before block `k` of an axis that has `inner` axes inside it: nothing before
 /// the first.
-pub fn push_lead(
-    out: &mut Vec<u8>,
+pub fn push_lead<W: Write>(
+    writer: &mut W,
+    out: &mut Room,
     k: usize,
     brackets: usize,
     inner: usize,
-) -> Result<(), AllocError>
+) -> Result<(), WriteFault>
     requires brackets { brackets ≤ 64 }
     requires inner { inner ≤ 64 }
-    ensures { Pushes (lead k (separator brackets inner)) result out.old out.new }
+    ensures { Pushes (lead k (separator brackets inner)) result (W.contents writer.old)
+        (W.contents writer.new) out.old out.new }
 {
     if k == 0 {
-        return Ok(());
+        return push(writer, out, b"");
     }
-    push_separator(out, brackets, inner)
+    push_separator(writer, out, brackets, inner)
 }
 
 /// Appends what comes between two blocks of an axis that has `inner` axes inside it.
-fn push_separator(out: &mut Vec<u8>, brackets: usize, inner: usize) -> Result<(), AllocError>
-    requires brackets { brackets ≤ 64 }
-    requires inner { inner ≤ 64 }
-    ensures { Pushes (separator brackets inner) result out.old out.new }
-{
-    if inner == 0 {
-        return push_few(out, b' ', 1);
-    }
-    push_few(out, b'\n', inner)?;
-    push_few(out, b' ', brackets + 1)
-}
-
-/// Appends a copy of the bytes from `from` to `to`, in place. As many as possible are copied by
-/// 1,024 at once, and held in between.
-fn push_within(out: &mut Vec<u8>, from: usize, to: usize) -> Result<(), AllocError>
-    requires order { from ≤ to }
-    requires inside { to ≤ length out.old.items }
-    ensures { Pushes (slice_range out.old.items from to) result out.old out.new }
-{
-    let mut done = from;
-    while to - done >= COPIED {
-        let mut held = [0; COPIED];
-        held.copy_from_slice(&out.as_slice()[done..done + COPIED]);
-        out.extend_from_slice(&held)?;
-        done += COPIED;
-    }
-    out.extend_from_within(done..to)?;
-    Ok(())
-}
-
-/// Appends `times` copies of the text from `start` on, each after what comes between two blocks.
-/// The copies are made in place.
-pub fn push_again(
-    out: &mut Vec<u8>,
-    start: usize,
-    times: usize,
+fn push_separator<W: Write>(
+    writer: &mut W,
+    out: &mut Room,
     brackets: usize,
     inner: usize,
-) -> Result<(), AllocError>
-    requires start { start ≤ length out.old.items }
+) -> Result<(), WriteFault>
     requires brackets { brackets ≤ 64 }
     requires inner { inner ≤ 64 }
-    ensures { Pushes (repeated (separator brackets inner ++ drop start out.old.items) times)
-        result out.old out.new }
+    ensures { Pushes (separator brackets inner) result (W.contents writer.old)
+        (W.contents writer.new) out.old out.new }
 {
-    if times == 0 {
-        return Ok(());
+    if inner == 0 {
+        return push_byte(writer, out, b' ');
     }
-    let from = out.len();
-    push_separator(out, brackets, inner)?;
-    push_within(out, start, from)?;
-    let to = out.len();
-    out.reserve((to - from).saturating_mul(times - 1))?;
-    for _i in 1..times {
-        push_within(out, from, to)?;
-    }
-    Ok(())
+    push_few(writer, out, b'\n', inner)?;
+    push_few(writer, out, b' ', brackets + 1)
 }
 
 /// Appends a text, padded on the left to a width.
-pub fn push_padded(out: &mut Vec<u8>, text: &str, width: usize) -> Result<(), AllocError>
-    ensures { Pushes (right_justified width text.now) result out.old out.new }
+pub fn push_padded<W: Write>(
+    writer: &mut W,
+    out: &mut Room,
+    text: &str,
+    width: usize,
+) -> Result<(), WriteFault>
+    ensures { Pushes (right_justified width text.now) result (W.contents writer.old)
+        (W.contents writer.new) out.old out.new }
 {
     let blanks = width.saturating_sub(text.len());
-    push_repeated(out, b' ', blanks)?;
-    out.extend_from_slice(text.as_bytes())
+    push_repeated(writer, out, b' ', blanks)?;
+    push(writer, out, text.as_bytes())
 }
 
-/// Appends what comes before value `k` of a record: nothing before the first.
-pub fn push_comma(out: &mut Vec<u8>, k: usize) -> Result<(), AllocError>
-    ensures { Pushes (lead k (codes ", ")) result out.old out.new }
+/// What comes before value `k` of a record: nothing before the first.
+pub fn comma(k: usize) -> &'static [u8]
+    ensures { result.now ≡ lead k (codes ", ") }
 {
-    if k == 0 {
-        return Ok(());
-    }
-    out.extend_from_slice(b", ")
+    if k == 0 { b"" } else { b", " }
 }
 
-/// Appends what follows the values of a record that has `values` of them.
-pub fn push_record_end(out: &mut Vec<u8>, values: usize) -> Result<(), AllocError>
-    ensures { Pushes (record_end values) result out.old out.new }
+/// What follows the values of a record that has `values` of them.
+pub fn record_end(values: usize) -> &'static [u8]
+    ensures { result.now ≡ record_end values }
 {
-    if values == 1 {
-        return out.extend_from_slice(b",)");
-    }
-    out.extend_from_slice(b")")
+    if values == 1 { b",)" } else { b")" }
 }

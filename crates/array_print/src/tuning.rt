@@ -1,11 +1,10 @@
 //! Numbers that only speed depends on.
 
-/// The least number of bytes of a long text that are sent at once.
-pub const BAND: usize = 65_536;
+/// The room for a text: what is held of a longer one before it is sent.
+pub const ROOM: usize = 262_144;
 
-/// Items up to this size are formatted once per band when stride 0 repeats them; larger ones are
-/// formatted once and copied.
-pub(crate) const SHORT_ITEM: usize = 64;
+/// The most room where stride 0 repeats items of more than `SHORT_ITEM` bytes.
+pub const LONG_ROOM: usize = 16_777_216;
 
-/// How many bytes of a text are copied at once.
-pub(crate) const COPIED: usize = 1024;
+/// Items of at most this many bytes are short.
+pub const SHORT_ITEM: usize = 64;

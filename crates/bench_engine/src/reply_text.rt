@@ -2,7 +2,7 @@
 ghost use Rattle.std.specs.Prelude.{◌≡◌, ◌≤◌, ◌+◌, ◌++◌, ◌∷◌, [], List, ℕ, length, All, IfOk, OnOk, OnErr, IsErrOf, ◌<◌};
 ghost use Rattle.bench_engine.specs.Words.{Appends, Sends, SendsPart, array_text, item_size, items_from, offsets};
 
-use array_print::{PrintFault, WriteFault, print_by_bands, print_into, send};
+use array_print::{PrintFault, WriteFault, print_by_bands, send};
 use elem_descr::Descr;
 use shape_strides::Layout;
 use std::alloc::{AllocError, Global};
@@ -65,6 +65,19 @@ impl ReplyText {
         self.bytes.extend_from_slice(more)
     }
 
+    /// Puts bytes in front of the text.
+    fn put_in_front(&mut self, mut front: Vec<u8>) -> Result<(), AllocError>
+        ensures { OnOk result (self.new ≡ front.items ++ self.old) }
+    {
+        if front.is_empty() {
+            return Ok(());
+        }
+        front.extend_from_slice(self.bytes.as_slice())?;
+        front.reserve(SHORT)?;
+        self.bytes = front;
+        Ok(())
+    }
+
     /// Replaces the text by that of an array whose items are at the layout's offsets in a block.
     pub fn print(&mut self, block: &[u8], layout: &Layout, descr: &Descr) -> Result<(), AllocError>
         requires inside { All (λ offset. offset + item_size descr.now ≤ length block.now)
@@ -72,8 +85,11 @@ impl ReplyText {
         ensures { OnOk result (self.new ≡ array_text descr.now layout.now.shape
             (items_from descr.now block.now (offsets layout.now))) }
     {
-        self.bytes.clear();
-        print_into(self.allocator(), &mut self.bytes, block, layout, descr)
+        let mut sent = Vec::new(self.allocator());
+        match self.send_printed(&mut sent, block, layout, descr) {
+            Ok(()) => self.put_in_front(sent),
+            Err(_) => Err(AllocError),
+        }
     }
 
     /// Prints an array, and sends the text while it is made. The end of the text is left to be

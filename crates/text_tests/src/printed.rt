@@ -2,7 +2,7 @@
 //! a line: those bytes are written with `\x` as other bytes that are not printable.
 use crate::check::check;
 use crate::made::{Array, Numbers, array_of, c_order_of};
-use array_print::print_into;
+use array_print::print_by_bands;
 use elem_descr::Refusal;
 use std::alloc::{AllocError, Global};
 use std::process::Abort;
@@ -148,7 +148,10 @@ fn print(
     } = array;
     check(rt, layout.fits(1 << 28, 1), "within the limit");
     check(rt, layout.fits(block.len(), descr.size()), "within");
-    print_into(alloc, out, block.bytes(), layout, descr)
+    let mut sent = Vec::new(alloc);
+    print_by_bands(&mut sent, out, block.bytes(), layout, descr).map_err(|_| AllocError)?;
+    check(rt, sent.is_empty(), "a short text is held");
+    Ok(())
 }
 
 /// Appends an array to a text that stands already. Where memory runs out the text is as before, and

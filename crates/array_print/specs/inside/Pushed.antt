@@ -1,9 +1,16 @@
--- Texts that are appended to bytes.
-use Rattle.std.specs.Prelude.{◌≡◌, ◌≤◌, ◌++◌, ℕ, List, OnOk, Result, Vec, vec_capacity}
-use Rattle.array_print.specs.Words.{Global, StartsWith}
+-- Texts that are appended to what is held.
+use Rattle.std.specs.Prelude.{◌≡◌, ◌≤◌, ◌++◌, ℕ, IsTrue, List, OnErr, OnOk, Option, Result, vec_capacity}
+use Rattle.array_print.specs.Sending.{Sends, SendsPart}
+use Rattle.array_print.specs.declared.bands.Room.{Room}
 
--- The text was appended. If memory ran out, a part of it may be.
-pub record Pushes {A E : Type 0} (text : List ℕ) (result : Result A E) (old new : Vec ℕ Global) : Type 0 where
-  pub ok : OnOk result (new.items ≡ old.items ++ text)
-  pub kept : StartsWith new.items old.items
-  pub room : vec_capacity old ≤ vec_capacity new
+-- The text was appended, and a first part of what is held by then may be sent. If nothing was since a mark, all is held.
+pub record Held (text : List ℕ) (written written' : Option (List ℕ)) (old new : Room) : Type 0 where
+  pub sends : Sends written written' new.text.items (old.text.items ++ text)
+  pub whole : IsTrue new.whole → IsTrue old.whole × (new.text.items ≡ old.text.items ++ text)
+  pub room : vec_capacity old.text ≤ vec_capacity new.text
+
+-- The text was appended. After a fault, a part was sent.
+pub record Pushes {A E : Type 0} (text : List ℕ) (result : Result A E) (written written' : Option (List ℕ)) (old new : Room) : Type 0 where
+  pub ok : OnOk result (Held text written written' old new)
+  pub err : OnErr result (SendsPart written written' (old.text.items ++ text))
+  pub room : vec_capacity old.text ≤ vec_capacity new.text

@@ -1,5 +1,5 @@
 -- How parts of an array's text come from its block of bytes.
-use Rattle.std.specs.Prelude.{◌≡◌, ℕ, zero, suc, List, [], ◌++◌, map, drop}
+use Rattle.std.specs.Prelude.{◌≡◌, ℕ, zero, suc, List, [], map, drop}
 use Rattle.std.proofs.Common.{take}
 use Rattle.array_print.specs.Words.{signed_decimal, AllZip, Scalar, Byte, Int, Bytes, Leaf, Descr, size, decode, number_of, leaves_of, item_from, BoolScalar}
 use Rattle.array_print.specs.Printed.{leaf_texts, leaf_widths, all_justified, item_text, items_from}
@@ -31,11 +31,6 @@ shown descr widths block offset = item_text descr widths (item_from descr block 
 abbrev pub lead : ℕ → List ℕ → List ℕ
 lead zero separator = []
 lead (suc k) separator = separator
-
--- a text, repeated `n` times
-abbrev pub repeated : List ℕ → ℕ → List ℕ
-repeated text zero = []
-repeated text (suc n) = repeated text n ++ text
 
 -- the widths of the leaves of items that begin at these offsets, in an array with axes
 abbrev pub widths_at : Descr → List ℕ → List ℕ → List ℕ

@@ -1,9 +1,7 @@
-use Rattle.std.proofs.Common.{◌≡◌, ◌≤◌, ◌++◌, replicate, vec_capacity}
+use Rattle.std.proofs.Common.{replicate}
+use Rattle.array_print.specs.inside.Pushed.{Held}
 use Rattle.array_print.proofs.padding.push_repeated.Given as goal
 
--- the copies so far are at the end
+-- the copies so far are pushed
 abbrev pub invariant-loop-i : goal.invariant-loop-i
-invariant-loop-i l = record {
-  pushed : l.out.items ≡ l.fn.out.items ++ replicate l._i l.byte;
-  room : vec_capacity l.fn.out ≤ vec_capacity l.out;
-}
+invariant-loop-i g l = Held (replicate l._i l.byte) (g.W.Write.contents l.fn.writer) (g.W.Write.contents l.writer) l.fn.out l.out

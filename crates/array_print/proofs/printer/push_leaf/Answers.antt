@@ -1,6 +1,6 @@
-use Rattle.std.proofs.Common.{◌≡◌, ◌+◌, ◌<◌, ◌≤◌, ◌++◌, ℕ, List, [], get_or, length, take, drop, sym, subst, ap, ◌∙◌, arith, IfSome, slice_get}
+use Rattle.std.proofs.Common.{◌≡◌, ◌+◌, ◌<◌, ◌≤◌, ℕ, List, [], get_or, length, take, drop, sym, ap, ◌∙◌, arith, IfSome, slice_get}
 use Rattle.array_print.proofs.Words.{Scalar, Descr, size, decode, item_size, leaves_of, right_justified, leaf_text, AreWidths, texts_at}
-use Rattle.array_print.specs.inside.Pushed.{Pushes}
+use Rattle.array_print.proofs.PushLaws.{pushes-same}
 use Rattle.array_print.proofs.LeafLaws.{bytes-at, count-widths, width-at, text-at}
 use Rattle.array_print.proofs.printer.push_leaf.Goals as goal
 
@@ -12,13 +12,13 @@ leaf-text descr ws block offset k at wide scalar are below is fits whole =
     ∙ sym (text-at (leaves_of descr) ws (take (item_size descr) (drop offset block)) k scalar at are below is)
 
 pub bounds-items-k : goal.bounds-items-k
-bounds-items-k c = omega (arith, count-widths (leaves_of c.args.items.now.descr.now) c.args.items.now.widths.now c.requires.item.widths, c.requires.leaf)
+bounds-items-k g c = omega (arith, count-widths (leaves_of c.args.item.items.descr.now) c.args.item.items.widths.now c.requires.item.widths, c.requires.leaf)
 
 pub push_value-requires-clause-width : goal.push_value-requires-clause-width
-push_value-requires-clause-width c =
-    width-at (leaves_of c.args.items.now.descr.now) c.args.items.now.widths.now c.args.k c.leaf_at-scalar.result.0 c.leaf_at-scalar.result.1 c.requires.item.widths c.requires.leaf c.leaf_at-scalar.ensures.leaf
+push_value-requires-clause-width g c =
+    width-at (leaves_of c.args.item.items.descr.now) c.args.item.items.widths.now c.args.k c.leaf_at-scalar.result.0 c.leaf_at-scalar.result.1 c.requires.item.widths c.requires.leaf c.leaf_at-scalar.ensures.leaf
 
 pub returns : goal.returns
-returns c =
-    let text = leaf-text c.args.items.now.descr.now c.args.items.now.widths.now c.args.items.now.block.now c.args.offset c.args.k c.leaf_at-scalar.result.1 _ c.leaf_at-scalar.result.0 c.requires.item.widths c.requires.leaf c.leaf_at-scalar.ensures.leaf c.leaf_at-scalar.ensures.within (omega (arith, c.size.ensures.value)) in
-    subst (λ text. Pushes text c.push_value.result c.args.out.now c.push_value.new.out) text c.push_value.ensures
+returns g c =
+    let text = leaf-text c.args.item.items.descr.now c.args.item.items.widths.now c.args.item.items.block.now c.args.item.offset c.args.k c.leaf_at-scalar.result.1 _ c.leaf_at-scalar.result.0 c.requires.item.widths c.requires.leaf c.leaf_at-scalar.ensures.leaf c.leaf_at-scalar.ensures.within (omega (arith, c.size.ensures.value)) in
+    pushes-same text c.push_value.ensures

@@ -1,10 +1,8 @@
-use Rattle.std.proofs.Common.{◌≡◌, ◌≤◌, ◌++◌, codes, flat_map, take, vec_capacity}
+use Rattle.std.proofs.Common.{◌++◌, codes, flat_map, take}
 use Rattle.array_print.proofs.Words.{escaped}
+use Rattle.array_print.specs.inside.Pushed.{Held}
 use Rattle.array_print.proofs.values.push_byte_string.Given as goal
 
 -- the texts of the bytes so far follow the mark
 abbrev pub invariant-loop-byte : goal.invariant-loop-byte
-invariant-loop-byte l = record {
-  pushed : l.out.items ≡ l.fn.out.items ++ (codes "b'" ++ flat_map escaped (take l.byte-index l.byte-items));
-  room : vec_capacity l.fn.out ≤ vec_capacity l.out;
-}
+invariant-loop-byte g l = Held (codes "b'" ++ flat_map escaped (take l.byte-index l.byte-items)) (g.W.Write.contents l.fn.writer) (g.W.Write.contents l.writer) l.fn.out l.out
