@@ -89,7 +89,7 @@ pub(crate) fn parts_of<'a>(alloc: Global, left: Left<'a>) -> Result<Vec<IndexPar
     while let Some((item, axes)) = left.next() {
         push_parts(alloc, &mut parts, axes, item, is_alone)?;
     }
-    push_parts(alloc, &mut parts, left.axes, IndexItem::Ellipsis)?;
+    push_parts(alloc, &mut parts, left.axes, IndexItem::Ellipsis, is_alone)?;
     Ok(parts)
 }
 
