@@ -39,6 +39,7 @@ impl From<WriteFault> for PrintFault {
 }
 
 /// Writes all of the bytes. After a fault, a prefix was written, but not all of them.
+#[inline(never)]
 pub fn send<W: Write>(writer: &mut W, bytes: &[u8]) -> Result<(), WriteFault>
     ensures ok { OnOk result (Appends (W.contents writer.old) (W.contents writer.new) bytes.now) }
     ensures err { OnErr result ((gone missing : List ℕ) × (bytes.now ≡ gone ++ missing)
@@ -65,6 +66,7 @@ pub struct Room {
 }
 
 /// Appends bytes to an empty text. If they are more than its room, they are sent at once.
+#[inline(never)]
 fn push_first<W: Write>(writer: &mut W, out: &mut Room, bytes: &[u8]) -> Result<(), WriteFault>
     requires empty { out.old.text.items ≡ [] }
     requires sent { out.old.whole ≡ false }
@@ -79,6 +81,7 @@ fn push_first<W: Write>(writer: &mut W, out: &mut Room, bytes: &[u8]) -> Result<
 
 /// Appends bytes to the text that is held. If there is no room for them, it is sent first. No memory
 /// is asked for.
+#[inline(always)]
 pub fn push<W: Write>(writer: &mut W, out: &mut Room, bytes: &[u8]) -> Result<(), WriteFault>
     ensures { Pushes bytes.now result (W.contents writer.old) (W.contents writer.new) out.old out.new }
 {
@@ -93,6 +96,7 @@ pub fn push<W: Write>(writer: &mut W, out: &mut Room, bytes: &[u8]) -> Result<()
 }
 
 /// Appends a byte.
+#[inline(always)]
 pub fn push_byte<W: Write>(writer: &mut W, out: &mut Room, byte: u8) -> Result<(), WriteFault>
     ensures { Pushes (byte ∷ []) result (W.contents writer.old) (W.contents writer.new)
         out.old out.new }

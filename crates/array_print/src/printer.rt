@@ -36,6 +36,7 @@ pub struct Item<'a> {
 }
 
 /// Appends the text of the `k`-th value of an item.
+#[inline(always)]
 fn push_leaf<W: Write>(
     writer: &mut W,
     out: &mut Room,

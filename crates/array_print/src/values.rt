@@ -24,6 +24,7 @@ fn stands_for_itself(byte: u8) -> bool
 }
 
 /// Appends a byte of a byte string: as itself, or escaped.
+#[inline(always)]
 fn push_escaped<W: Write>(writer: &mut W, out: &mut Room, byte: u8) -> Result<(), WriteFault>
     ensures { Pushes (escaped byte) result (W.contents writer.old) (W.contents writer.new)
         out.old out.new }
