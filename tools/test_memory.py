@@ -67,11 +67,15 @@ class RefusedMemory(unittest.TestCase):
 class LittleMemory(unittest.TestCase):
     """Lines that hold little beside their arrays and their result, tried with little memory."""
 
-    def last_reply(self, kilobytes, *lines):
-        limited = ["sh", "-c", f'ulimit -v {kilobytes}; ulimit -t 15; exec "$@"', "sh", PROGRAM]
-        if not works(*limited):
+    def limited(self, kilobytes):
+        """The program with so much memory and 15 seconds."""
+        words = ["sh", "-c", f'ulimit -v {kilobytes}; ulimit -t 15; exec "$@"', "sh", PROGRAM]
+        if not works(*words):
             self.skipTest("the program does not start with as little memory")
-        replies = subprocess.run(limited, input="\n".join(lines).encode(), capture_output=True, timeout=PATIENT).stdout
+        return words
+
+    def last_reply(self, kilobytes, *lines):
+        replies = subprocess.run(self.limited(kilobytes), input="\n".join(lines).encode(), capture_output=True, timeout=PATIENT).stdout
         return replies[replies.rindex(b"\n", 0, -1) + 1 :]
 
     def test_a_long_print_is_sent_as_it_is_made(self):
@@ -80,10 +84,18 @@ class LittleMemory(unittest.TestCase):
         self.assertEqual(last, b" [" + b" ".join([b"0"] * 4096) + b"]]\n")
 
     def test_items_that_are_repeated_are_measured_once(self):
-        """10 GB of text are refused at once: 256 values are measured, not 256 at each of 2^24 places, which would take half a minute."""
+        """Of 10 GB of text the first 64 KB come at once: 256 values are measured, not 256 at each of 2^24 places, which would take half a minute."""
         row = "T{" + "".join(f"b:f{k}:" for k in range(64)) + "}"
-        last = self.last_reply(70_000, f"a = zeros T{{{row}:p:{row}:q:{row}:r:{row}:s:}} (1)", "b = broadcast a (16777216)", "print b")
-        self.assertEqual(last, b"no E40 out of memory\n")
+        lines = [f"a = zeros T{{{row}:p:{row}:q:{row}:r:{row}:s:}} (1)", "b = broadcast a (16777216)", "print b"]
+        text = f"[({', '.join(['(' + ', '.join(['0'] * 64) + ')'] * 4)})"
+        with tempfile.TemporaryFile() as script:
+            script.write("\n".join(lines).encode())
+            script.seek(0)
+            with subprocess.Popen(self.limited(70_000), stdin=script, stdout=subprocess.PIPE, stderr=subprocess.DEVNULL) as bench:
+                said = bench.stdout.read(2**16)
+                bench.stdout.close()
+        self.assertEqual(said[said.index(b"[") :][: len(text)].decode(), text)
+        self.assertEqual(bench.returncode, 3)
 
     def test_index_arrays_are_added_one_at_a_time(self):
         """The result is 4 MB. Each place has a number of 4 bytes, and one more while an array is read."""
