@@ -1,4 +1,5 @@
-"""The files of a crate can be read one after the other: no two import each other, directly or through others."""
+"""The files of a crate can be read one after the other: no two import each other, directly or through others; and what two
+documents name is there."""
 import graphlib
 import re
 import unittest
@@ -7,6 +8,9 @@ from trials.companion_trials import TOP
 from make.words import reading
 
 CRATES = sorted(path.parent.name for path in TOP.glob("crates/*/src"))
+# What a line defines: a function, a type and the like; a variant of an enum; a definition or a lemma.
+DEFINED = re.compile(r"\b(?:fn|struct|enum|trait|type|const|def|class|function|record|data) (\w+)|^ +([A-Z]\w+)\b|^(?:[a-z]+ )*([\w'-]+) :", re.M)
+OF_THE_TOOLCHAIN = {"Common", "Display", "Prelude", "from_residual"}
 
 
 class Reading(unittest.TestCase):
@@ -48,6 +52,22 @@ class Reading(unittest.TestCase):
                 if path:
                     self.assertTrue(path.is_file(), line)
                     folder = path.parent
+
+    def test_the_names_in_documents_on_the_code(self):
+        """In backticks: a file is in the tree, and a name with a capital or an underscore is defined in it."""
+        folders = [*TOP.glob("crates/*/[sp]*"), *(TOP / name for name in "tools companion page library docs man dist".split())]
+        paths = [path for folder in folders for path in folder.rglob("*.*")]
+        known = OF_THE_TOOLCHAIN.union(*({path.stem, *path.parts} for path in paths))
+        for path in paths:
+            if path.suffix in (".rt", ".antt", ".py", ".mjs"):
+                known.update(name for found in DEFINED.findall(path.read_text()) for name in found)
+        for page in ("MAP", "CONTRIBUTING"):
+            for name in re.findall(r"`(\w[\w/:.]*)`", (TOP / f"docs/{page}.md").read_text()):
+                with self.subTest(page=page, name=name):
+                    if "." in name:
+                        self.assertTrue((TOP / name).exists() or any(path.match(name) for path in paths))
+                    elif re.search(r"[A-Z]\w*[a-z]|[a-z]_", name) and not (TOP / name).exists():
+                        self.assertFalse(set(re.split("::|/", name)) - known)
 
 
 if __name__ == "__main__":

@@ -1,6 +1,6 @@
 -- Appending items one after another.
-use Rattle.std.proofs.Common.{◌≡◌, inl, inr, ℕ, suc, ◌+◌, ◌*◌, ◌^◌, ◌<◌, ◌≤◌, ◌&&◌, ◌||◌, not, true, false, Bool, pos, List, [], ◌∷◌, ◌++◌, length, get_or, take, drop, replicate, reverse, All, refl, sym, ap, subst, ◌∙◌, arith, append_assoc, zero-mul, suc-mul, length-append, ◌==◌, if◌then◌else◌}
-use Rattle.npy_format.proofs.Words.{and_parts, flat_map, Each, take-add, eqb-true, true≢false, cases_lt, flat_map-append, append-nil, drop-drop, length-map, get_or-map, get_or_past, length-reverse, All-head, All-tail, All-from_recursion, place, item_at, EachWithin, begins_within, Run, count, indexes, rank, length-indexes, rank-lt, get_or-indexes, index_at, rank-zeros, IsIndex-first, zero_filled, count-reverse, IsIndex-from_reverse, first_address, fortran_order, is_c_contiguous, is_f_contiguous, Layout, max_items, offsets, length-offsets, run_offsets, runs, first_address-entry, length-run_offsets, run_offsets-more, place-at, run-ends, length-fortran, reverse-replicate, gathered, addresses_in_file}
+use Rattle.std.proofs.Common.{◌≡◌, inl, inr, ℕ, suc, ◌+◌, ◌*◌, ◌<◌, ◌≤◌, ◌&&◌, ◌||◌, not, true, false, Bool, pos, List, [], ◌∷◌, ◌++◌, length, get_or, take, drop, replicate, reverse, All, refl, sym, ap, subst, ◌∙◌, arith, append_assoc, zero-mul, suc-mul, ◌==◌, if◌then◌else◌}
+use Rattle.npy_format.proofs.Words.{and_parts, flat_map, take-add, eqb-true, true≢false, cases_lt, flat_map-append, append-nil, drop-drop, length-map, get_or-map, get_or_past, length-reverse, All-head, All-tail, place, item_at, EachWithin, begins_within, Run, count, indexes, rank, length-indexes, rank-lt, get_or-indexes, index_at, rank-zeros, IsIndex-first, zero_filled, count-reverse, IsIndex-from_reverse, first_address, fortran_order, is_c_contiguous, is_f_contiguous, offsets, run_offsets, first_address-entry, length-run_offsets, run_offsets-more, place-at, run-ends, length-fortran, reverse-replicate, gathered, addresses_in_file}
 
 -- ---- adjacent items
 
@@ -52,21 +52,6 @@ stretch len width run bytes within some step =
       subst (λ n. run.offset + n * width ≤ len) long (adjacent-ends width run.offset len (run_offsets run) adjacent (run-ends len width run within) (begins_within len run.offset run.step width run.count 0 within some)),
       gathered-adjacent width run.offset (run_offsets run) bytes adjacent ∙ ap (λ n. item_at run.offset (n * width) bytes) long,
     )
-
--- A run has at most as many items as all runs together.
-counts-below : (rs : List Run) (most : ℕ) → length (flat_map run_offsets rs) ≤ most → All (λ run. run.count ≤ most) rs
-counts-below rs most few = All-from_recursion (λ run. run.count ≤ most) rs (each rs few)
-  where
-    each : (rs : List Run) → length (flat_map run_offsets rs) ≤ most → Each (λ run. run.count ≤ most) rs
-    each [] few = tt
-    each (run ∷ rs) few =
-        let sum = length-append (run_offsets run) (flat_map run_offsets rs) in
-        (omega (arith, few, sum, length-run_offsets run), each rs (omega (arith, few, sum)))
-
-pub few-counts : (l : Layout) → count l.shape ≤ max_items → flat_map run_offsets (runs l) ≡ offsets l → All (λ run. run.count < 2 ^ 63) (runs l)
-few-counts l few are =
-    let all = counts-below (runs l) max_items (omega (arith, few, ap length are, length-offsets l)) in
-    λ k d below. omega (arith, all k d below)
 
 -- ---- one more item
 

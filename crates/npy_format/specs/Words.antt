@@ -41,7 +41,7 @@ pub use Rattle.elem_descr.specs.declared.scalar.Order.TheVariants.{Big, Little}
 pub use Rattle.elem_descr.specs.declared.scalar.Scalar.{Scalar}
 pub use Rattle.elem_descr.specs.declared.scalar.Scalar.TheVariants.{Bool as BoolScalar, Byte, Bytes, Int}
 pub use Rattle.elem_descr.specs.declared.scalar.Width.TheVariants.{Four, Two}
-pub use Rattle.raw_block.specs.Bytes.{EachWithin, item_at, place, position, put}
+pub use Rattle.raw_block.specs.Bytes.{EachWithin, item_at, place, put}
 pub use Rattle.raw_block.specs.BytesLaws.{begins_within, front_length, length-item_at}
 pub use Rattle.shape_strides.specs.AxisIndexes.{zero_filled}
 pub use Rattle.shape_strides.specs.AxisLaws.{IsIndex-first, rank-zeros}
@@ -59,7 +59,6 @@ pub use Rattle.shape_strides.specs.ShapeLaws.{shape_of-capped, shape_of-many, sh
 pub use Rattle.shape_strides.specs.Shapes.{IsShape, shape_text}
 unfoldable pub use Rattle.shape_strides.specs.Shapes.{shape_of}
 pub use Rattle.shape_strides.specs.WalkLaws.{length-run_offsets}
-pub use Rattle.shape_strides.specs.declared.layout.Layout.{Layout}
 pub use Rattle.shape_strides.specs.declared.runs.Run.{Run}
 pub use Rattle.std.specs.Borrow.{Bor}
 pub use Rattle.std.specs.Char.{is_ascii_alphabetic, is_ascii_digit}

@@ -1,45 +1,25 @@
 //! Appends the bytes of items as a file stores them: a bool is 0 or 1, and padding is zero.
-ghost use Rattle.std.specs.Prelude.{All, IfOk, IsTrue, OnOk, length, pos, replicate, ◌*◌, ◌++◌, ◌+◌, ◌-◌, ◌<ℤ◌, ◌<◌, ◌^◌, ◌||◌, ◌≡◌, ◌≤ℤ◌, ◌≤◌};
-ghost use Rattle.npy_format.specs.Clauses.{AreInOrder, EachWithin, blocks, count, decode_item, encode_item, is_c_contiguous, is_f_contiguous, is_fortran, item_at, item_size, leaves_of, max_bytes, offsets, place, position, put, run_offsets, addresses_in_file, as_in_file, capped, gathered, limit, limits_from, flat_map, repeat};
+ghost use Rattle.std.specs.Prelude.{All, IfOk, IsTrue, OnOk, length, replicate, ◌*◌, ◌++◌, ◌+◌, ◌-◌, ◌||◌, ◌≡◌, ◌≤◌};
+ghost use Rattle.npy_format.specs.Clauses.{AreInOrder, EachWithin, blocks, count, decode_item, encode_item, is_c_contiguous, is_f_contiguous, is_fortran, item_at, item_size, leaves_of, max_bytes, offsets, put, run_offsets, addresses_in_file, as_in_file, capped, gathered, limit, limits_from, flat_map, repeat};
 
 use elem_descr::{Descr, Leaf, Scalar};
-use raw_block::part;
+use raw_block::{Steps, part};
 use shape_strides::{Layout, Run, Runs};
 use std::alloc::{AllocError, Global};
-
-/// The offset of the `k`-th item of a run.
-fn place(run: Run, k: usize) -> usize
-    requires few { k < 2 ^ 63 }
-    requires start { run.offset < 2 ^ 63 }
-    requires low { pos 0 ≤ℤ position run.offset run.step k }
-    requires high { position run.offset run.step k <ℤ pos (2 ^ 63) }
-    ensures { result ≡ place run.offset run.step k }
-{
-    (run.offset as isize + k as isize * run.step) as usize
-}
-
-/// Whether items of `width` bytes are adjacent.
-fn is_adjacent(run: Run, width: usize) -> bool
-    requires { width ≤ 65536 }
-    ensures { IsTrue result → run.step ≡ pos width }
-{
-    run.step == width as isize
-}
 
 /// Appends the items of `width` bytes of a run, all at once if they are adjacent.
 fn push_run(file: &mut Vec<u8>, bytes: &[u8], run: Run, width: usize) -> Result<(), AllocError>
     requires within { EachWithin (length bytes.now) run.offset run.step width run.count }
     requires some { 1 ≤ run.count }
-    requires few { run.count < 2 ^ 63 }
-    requires width { width ≤ 65536 }
     ensures { OnOk result
         (file.new.items ≡ file.old.items ++ gathered width bytes.now (run_offsets run)) }
 {
-    if is_adjacent(run, width) {
+    if run.is_packed(width) {
         return file.extend_from_slice(part(bytes, run.offset, run.count * width));
     }
+    let items = Steps::new(run.offset, run.step);
     for k in 0..run.count {
-        file.extend_from_slice(part(bytes, place(run, k), width))?;
+        file.extend_from_slice(part(bytes, items.place(k), width))?;
     }
     Ok(())
 }

@@ -1,6 +1,6 @@
-use Rattle.std.proofs.Common.{◌≡◌, ◌≤◌, ◌<◌, ◌+◌, ◌*◌, ◌^◌, ◌++◌, length, All, sym, ap, subst, ◌∙◌, arith, rules}
+use Rattle.std.proofs.Common.{◌≡◌, ◌≤◌, ◌+◌, ◌*◌, ◌++◌, length, All, sym, ap, subst, ◌∙◌, arith, rules}
 use Rattle.npy_format.proofs.Words.{All-head, All-rest, Run, flat_map, item_at, EachWithin, max_bytes, offsets, length-offsets, run_offsets, runs, runs-within, gathered, addresses_in_file}
-use Rattle.npy_format.proofs.GatherLaws.{together, in_file-none, few-counts, run_pushed}
+use Rattle.npy_format.proofs.GatherLaws.{together, in_file-none, run_pushed}
 use Rattle.npy_format.proofs.items.push_items.Goals as goal
 
 pub part-requires : goal.part-requires
@@ -30,7 +30,6 @@ loop-run-init c =
       rest = ap (λ all. c.args.file.now.items ++ gathered width c.args.bytes.now all) (ap (flat_map run_offsets) made ∙ c.new-run-items.ensures.offsets ∙ sym none);
       within = subst (All (λ run. EachWithin len run.offset run.step width run.count)) (sym made) (runs-within len width (λ run. run) (runs l) (c.new-run-items.ensures.lie max_bytes 1 l.within_limit) ends);
       some = subst (All (λ run. 1 ≤ run.count)) (sym it) (search rules);
-      few = subst (All (λ run. run.count < 2 ^ 63)) (sym made) (few-counts l (omega (arith, c.items-count.ensures.value, c.items-count.ensures.limit)) c.new-run-items.ensures.offsets);
     }
 
 pub push_run-requires-clause-within : goal.push_run-requires-clause-within
@@ -46,5 +45,4 @@ loop-run-preserved c =
       rest = run_pushed c.args.width c.in-Some.run' _ _ c.args.bytes.now c.loop-run.file.items c.push_run.new.file.items _ steps c.in_ok-push_run.ensures inv.rest;
       within = All-rest (λ run. EachWithin (length c.args.bytes.now) run.offset run.step c.args.width run.count) _ _ _ steps inv.within;
       some = All-rest (λ run. 1 ≤ run.count) _ _ _ steps inv.some;
-      few = All-rest (λ run. run.count < 2 ^ 63) _ _ _ steps inv.few;
     }

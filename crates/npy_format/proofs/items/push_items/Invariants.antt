@@ -1,4 +1,4 @@
-use Rattle.std.proofs.Common.{◌≡◌, ◌^◌, ◌<◌, ◌≤◌, ◌++◌, length, All}
+use Rattle.std.proofs.Common.{◌≡◌, ◌≤◌, ◌++◌, length, All}
 use Rattle.npy_format.proofs.Words.{flat_map, EachWithin, offsets, run_offsets, gathered, addresses_in_file}
 use Rattle.npy_format.proofs.items.push_items.Given as goal
 
@@ -8,5 +8,4 @@ invariant-loop-run l = record {
   rest : l.file.items ++ gathered l.width l.bytes (flat_map run_offsets l.run-iterator) ≡ l.fn.file.items ++ gathered l.width l.bytes (addresses_in_file l.width l.layout.shape (offsets l.layout));
   within : All (λ run. EachWithin (length l.bytes) run.offset run.step l.width run.count) l.run-iterator;
   some : All (λ run. 1 ≤ run.count) l.run-iterator;
-  few : All (λ run. run.count < 2 ^ 63) l.run-iterator;
 }

@@ -4,4 +4,4 @@ use Rattle.npy_format.proofs.items.push_run.Given as goal
 
 -- the items so far are appended
 abbrev pub invariant-loop-k : goal.invariant-loop-k
-invariant-loop-k l = l.file.items ≡ l.fn.file.items ++ gathered l.width l.bytes (run_offsets (record { offset = l.run.offset; count = l.k; step = l.run.step }))
+invariant-loop-k l = l.file.items ≡ l.fn.file.items ++ gathered l.width l.bytes (run_offsets (record { offset = l.fn.run.offset; count = l.k; step = l.fn.run.step }))
