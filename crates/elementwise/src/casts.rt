@@ -9,11 +9,11 @@ use crate::loops::row_pairs::Operands;
 use crate::pairing::{Pairing, Work};
 use crate::rules::castable::{can_cast, leaf_of};
 use crate::tuning::{BAND, FEWEST_IN_BAND};
-use arrays::{Items, Owned, copy_run, gather};
+use arrays::{Items, Owned, bytes_of, copy_run, gather};
 use elem_descr::{Descr, Leaf, MemoryOrder, Refusal, Scalar};
 use machine_numbers::{Side, is_text, place};
 use raw_block::{BlockBuilder, RawBlock};
-use shape_strides::{MAX_BYTES, Run};
+use shape_strides::Run;
 use std::alloc::{AllocError, Global};
 
 /// The leaf that is cast to the one with this number.
@@ -298,8 +298,6 @@ pub fn cast(alloc: Global, from: Items<'_>, to: &Descr) -> Result<Owned, Refusal
     if !can_cast(from.descr, to) {
         return Err(Refusal::NoSuchCast);
     }
-    if from.layout.shape.items() * to.size() > MAX_BYTES {
-        return Err(Refusal::TooLarge);
-    }
+    bytes_of(from.layout.shape.items(), to)?;
     Ok(cast_items(alloc, from, to)?)
 }
