@@ -56,5 +56,5 @@ pub use Rattle.std.specs.List.{AllByRecursion as Each, range_with_len}
 pub use Rattle.std.specs.Ordering.{is_gt, is_lt, nat_cmp}
 pub use Rattle.std.specs.declared.alloc.AllocError.{AllocError}
 pub use Rattle.std.specs.declared.cmp.Ordering.{Ordering}
-pub use lib.IntN.{*ℤ-zero, +ℤ_idr}
+pub use lib.IntN.{+ℤ_idr}
 pub use mir.Val.{SFits, bool_byte, of_z, to_z}

@@ -4,12 +4,6 @@ use Rattle.elementwise.proofs.ColumnLaws.{run-parts, part-within, length-cast_it
 use Rattle.elementwise.proofs.EncodedLaws.{items-append}
 use Rattle.elementwise.proofs.casts.cast_bands.Goals as goal
 
-pub place-requires-clause-few : goal.place-requires-clause-few
-place-requires-clause-few c = omega (arith, c.loop-done-test.true, c.requires.count)
-
-pub place-requires-clause-start : goal.place-requires-clause-start
-place-requires-clause-start c = omega (arith, ints, c.requires.within.each 0 (omega (arith, c.loop-done-test.true)), c.len-len.ensures.len, c.len-len.ensures.small)
-
 pub place-requires-clause-low : goal.place-requires-clause-low
 place-requires-clause-low c = (c.requires.within.each c.loop-done.done c.loop-done-test.true).0
 
