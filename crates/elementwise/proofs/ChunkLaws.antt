@@ -1,6 +1,6 @@
 -- Parts of runs as layouts of one axis, and the results on them.
 use Rattle.std.proofs.Common.{◌≡◌, ◌+◌, ◌*◌, ◌<◌, ◌≤◌, All, ℕ, pos, ◌+ℤ◌, ◌*ℤ◌, List, [], ◌∷◌, ◌++◌, map, length, append-nil, get_or, sym, ap, subst, ◌∙◌, arith, ◌≤ℤ◌}
-use Rattle.elementwise.proofs.Words.{take_all, ints, length-map, map-append, same_lists, get_or_default, All-cons, flat_map, ScalarDescr, *ℤ_comm, +ℤ_idr, *ℤ-zero, Descr, Scalar, LeafValue, Items, size, encode, decode, encode_item, decode_item, item_from, one-encoded, length-encode, run_front, Layout, Run, BeginsWithin, IsIndex, address_at, natural, position, place, position-add, rank, count, offsets, run_offsets, max_bytes, lie-within, run-ends, run-within, nth-offset, get_or-offsets, length-offsets, length-run_offsets, pairwise, value_in, cast_item, InRuns, Broadcast, Pairing, given, run_items, all_given, items_stretched, run_part, AreItems, left_of, right_of, target_of, gives, CanPair}
+use Rattle.elementwise.proofs.Words.{take_all, length-map, map-append, same_lists, get_or_default, All-cons, flat_map, ScalarDescr, *ℤ_comm, +ℤ_idr, Descr, Scalar, LeafValue, Items, size, encode, decode, encode_item, decode_item, item_from, one-encoded, length-encode, run_front, Layout, Run, BeginsWithin, IsIndex, address_at, natural, position, place, position-add, rank, count, offsets, run_offsets, max_bytes, lie-within, run-ends, run-within, nth-offset, get_or-offsets, length-offsets, length-run_offsets, pairwise, value_in, cast_item, InRuns, Broadcast, Pairing, given, run_items, all_given, items_stretched, run_part, AreItems, left_of, right_of, target_of, gives, CanPair}
 use Rattle.elementwise.proofs.ColumnLaws.{part-within, run-parts}
 use Rattle.elementwise.proofs.EncodedLaws.{items-append, no-items}
 use Rattle.elementwise.proofs.PairLaws.{length-pairwise, pairwise-append}
@@ -27,13 +27,6 @@ one-axis l run shape strides offset =
 -- the address of the `k`-th item
 pub address-of : (run : Run) (k : ℕ) → address_at (run.step ∷ []) run.offset (k ∷ []) ≡ position run.offset run.step k
 address-of run k = ap (λ z. pos run.offset +ℤ z) (+ℤ_idr (run.step *ℤ pos k) ∙ *ℤ_comm run.step (pos k))
-
--- the first item lies within the limit
-pub begins-at : (run : Run) → 0 < run.count → BeginsWithin run → run.offset < max_bytes
-begins-at run some lies =
-    let here : address_at (run.step ∷ []) run.offset (0 ∷ []) ≡ pos run.offset = ap (λ z. pos run.offset +ℤ z) (+ℤ_idr (run.step *ℤ pos 0) ∙ *ℤ-zero run.step) ∙ +ℤ_idr (pos run.offset) in
-    let low = subst (λ z. (z +ℤ pos 1) ≤ℤ pos max_bytes) here (lies.within (0 ∷ []) (some, tt)) in
-    omega (arith, ints, low)
 
 -- if a run begins within the limit, so does a part of it
 module _ (run : Run) (first n : ℕ) (lies : BeginsWithin run) (low : first < run.count) (ends : first + n ≤ run.count) where

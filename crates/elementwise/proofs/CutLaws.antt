@@ -1,9 +1,9 @@
 -- Casts of byte strings, and of numbers.
-use Rattle.std.proofs.Common.{◌≡◌, ◌+◌, ◌-◌, ◌*◌, ◌<◌, ◌≤◌, ◌++◌, inl, inr, true, false, ℕ, zero, suc, List, [], ◌∷◌, map, length, get_or, min, take, drop, replicate, sym, ap, subst, ◌∙◌, All, arith, refl, append-nil}
-use Rattle.elementwise.proofs.Words.{false≢true, take-take, take-replicate, drop-replicate, length-replicate, length-map, get_or-map, same_lists, All-from_get_or, All-map, All-head, All-rest, Descr, Scalar, Byte, Int, Bytes, IsNumber, is_text, LeavesInOrder, padded, without_nuls, item_at, length-item_at, items_at, with_items, item_size, multiples, row_offsets, length-row, row-multiples, ScalarDescr, BoolScalar, can_cast_scalar, IsCut, cast_items, leaf_from, source, AreItems}
+use Rattle.std.proofs.Common.{◌≡◌, ◌+◌, ◌-◌, ◌*◌, ◌≤◌, ◌++◌, inl, inr, true, false, ℕ, zero, suc, List, [], ◌∷◌, map, length, min, take, drop, replicate, sym, ap, subst, ◌∙◌, All, arith, refl, append-nil}
+use Rattle.elementwise.proofs.Words.{false≢true, take-take, All-head, All-rest, Descr, Scalar, Byte, Int, Bytes, IsNumber, is_text, LeavesInOrder, padded, without_nuls, item_at, length-item_at, items_at, item_size, multiples, row-multiples, ScalarDescr, BoolScalar, can_cast_scalar, IsCut, cast_items, leaf_from, source, AreItems}
 use Rattle.elementwise.proofs.EncodedLaws.{all-encoded, cut}
 use Rattle.elementwise.proofs.NulLaws.{text_pushed}
-use Rattle.elementwise.proofs.RowLaws.{AreBeside, row-entry, row-in, rows-in, rows-beside, rows-lie, kept, landed}
+use Rattle.elementwise.proofs.RowLaws.{kept}
 
 -- byte strings of `n` bytes, each of which is one of `m` bytes, cast
 texts-cast : (m n : ℕ) (other offsets bytes : List ℕ) → length bytes ≡ length offsets * n → items_at (multiples n (length offsets)) n bytes ≡ map (leaf_from (source (ScalarDescr (Bytes m)) 0) (Bytes n) other) offsets → LeavesInOrder (ScalarDescr (Bytes n)) →
@@ -14,9 +14,10 @@ texts-cast m n other offsets bytes long each apart =
       | zero ↦ λ low. record { written = (λ i. items_at (row-multiples n (length offsets) i) n bytes) ∙ each }
       | suc k ↦ λ low. absurd (omega (arith, low))
     ])
+    1
     (record {
       zeros = λ at width fits gap j low.
-          let none : width ≡ 0 = elim (gap 0 (omega arith)) [ inl before ↦ omega (arith, before) | inr after ↦ omega (arith, fits, after) ] in
+          let none : width ≡ 0 = elim (gap 0 (omega arith) (omega arith)) [ inl before ↦ omega (arith, before) | inr after ↦ omega (arith, fits, after) ] in
           (λ i. item_at (at + j * n) (none i) bytes) ∙ λ i. replicate (sym none i) 0;
     })
     apart
@@ -55,76 +56,6 @@ first-bytes-cast from to other offsets bytes cut inside long same apart =
     (subst (λ (d : Descr). length bytes ≡ length offsets * item_size d) cut.to_is long)
     (subst (λ (d : Descr). items_at (multiples (item_size d) (length offsets)) (item_size d) bytes ≡ items_at offsets (item_size d) other) cut.to_is same)
     (subst LeavesInOrder cut.to_is apart)))
-
--- ---- byte strings that are padded
-
-one-leaf : (n : ℕ) → 1 ≤ n → LeavesInOrder (ScalarDescr (Bytes n))
-one-leaf n some = record {
-  some = elim [ zero ↦ λ low. some | suc k ↦ λ low. absurd (omega (arith, low)) ];
-  within = elim [ zero ↦ λ low. omega arith | suc k ↦ λ low. absurd (omega (arith, low)) ];
-  apart = λ j k before low. absurd (omega (arith, before, low));
-}
-
-module _ (m n : ℕ) (longer : m ≤ n) (other os bytes : List ℕ) (inside : All (λ o. o + m ≤ length other) os) (wrote : bytes ≡ with_items (row_offsets 0 n (length os)) (items_at os m other) (replicate (length os * n) 0)) where
-  abbrev zeros : List ℕ
-  zeros = replicate (length os * n) 0
-
-  abbrev ats : List ℕ
-  ats = row_offsets 0 n (length os)
-
-  starts : 0 + m ≤ n
-  starts = omega (arith, longer)
-
-  room : length os * n ≤ length zeros
-  room = omega (arith, length-replicate {A = ℕ} (length os * n) 0)
-
-  wide : All (λ item. length item ≡ m) (items_at os m other)
-  wide = All-map (λ item. length item ≡ m) (λ o. item_at o m other) os (All-from_get_or (λ o. length (item_at o m other) ≡ m) os 0 (λ k low. length-item_at (get_or os k 0) m other (inside k 0 low)))
-
-  fits : All (λ o. o + m ≤ length zeros) ats
-  fits = rows-in n (length os) (length zeros) room 0 m starts
-
-  -- the front of an item
-  front : (j : ℕ) → j < length os → item_at (0 + j * n) m bytes ≡ item_at (get_or os j 0) m other
-  front j low =
-      let read = λ (o : ℕ). item_at o m bytes in
-      let near : j < length ats = omega (arith, low, length-row 0 n (length os)) in
-      ap read (sym (row-entry 0 n (length os) j low))
-      ∙ sym (get_or-map read ats j 0 [] near)
-      ∙ ap (λ items. get_or items j []) (ap (λ all. map (λ o. item_at o m all) ats) wrote ∙ landed m ats (items_at os m other) zeros (length-row 0 n (length os) ∙ sym (length-map os (λ o. item_at o m other))) fits wide (rows-lie n (length os) (length zeros) room 0 m starts))
-      ∙ get_or-map (λ o. item_at o m other) os j 0 [] low
-
-  -- the NULs behind it
-  back : (j : ℕ) → j < length os → item_at (m + j * n) (n - m) bytes ≡ replicate (n - m) 0
-  back j low =
-      let apart = All-from_get_or (λ o. AreBeside (m + j * n) (n - m) o m) ats 0 (λ k there.
-      subst (λ o. AreBeside (m + j * n) (n - m) o m) (sym (row-entry 0 n (length os) k (omega (arith, there, length-row 0 n (length os))))) (rows-beside n (length os) (length zeros) room m (n - m) 0 m (omega (arith, longer)) starts (inr (omega arith)) j k)) in
-      let ends = row-in n (length os) (length zeros) room m (n - m) (omega (arith, longer)) j low in
-      ap (item_at (m + j * n) (n - m)) wrote
-      ∙ kept m (m + j * n) (n - m) ats (items_at os m other) zeros ends fits wide apart
-      ∙ ap (take (n - m)) (drop-replicate (m + j * n) (length os * n) 0)
-      ∙ take-replicate (n - m) (length os * n - (m + j * n)) 0 (omega (arith, ends, length-replicate {A = ℕ} (length os * n) 0))
-
-  padded-each : items_at (multiples n (length os)) n bytes ≡ map (leaf_from (source (ScalarDescr (Bytes m)) 0) (Bytes n) other) os
-  padded-each =
-      let make = leaf_from (source (ScalarDescr (Bytes m)) 0) (Bytes n) other in
-      let read = λ (o : ℕ). item_at o n bytes in
-      let many = length-map ats read ∙ length-row 0 n (length os) in
-      (λ i. items_at (sym (row-multiples n (length os)) i) n bytes)
-      ∙ same_lists (map read ats) (map make os) (many ∙ sym (length-map os make)) (λ j d below.
-      let low : j < length os = omega (arith, below, many) in
-      let parts : n ≡ m + (n - m) = omega (arith, longer) in
-      let next : 0 + j * n + m ≡ m + j * n = omega arith in
-      get_or-map read ats j 0 d (omega (arith, low, length-row 0 n (length os)))
-      ∙ ap read (row-entry 0 n (length os) j low)
-      ∙ ap (λ w. item_at (0 + j * n) w bytes) parts
-      ∙ cut bytes (0 + j * n) m (n - m)
-      ∙ (λ i. front j low i ++ (ap (λ at. item_at at (n - m) bytes) next ∙ back j low) i)
-      ∙ text-cast m n m (get_or os j 0) other (inside j 0 low) (omega (arith, longer))
-      ∙ sym (get_or-map make os j 0 d low))
-
-  pub texts-padded : 1 ≤ n → length bytes ≡ length os * n → AreItems (ScalarDescr (Bytes n)) (cast_items (ScalarDescr (Bytes m)) (ScalarDescr (Bytes n)) other os) bytes
-  texts-padded some long = texts-cast m n other os bytes long padded-each (one-leaf n some)
 
 -- ---- scalars that are not byte strings
 

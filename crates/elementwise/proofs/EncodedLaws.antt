@@ -1,6 +1,6 @@
 -- Items that are written leaf by leaf over zeros: their bytes are the encoded values.
 use Rattle.std.proofs.Common.{◌≡◌, ◌+◌, ◌-◌, ◌*◌, ◌<◌, ◌≤◌, inl, inr, ℕ, zero, suc, true, pos, List, [], ◌∷◌, ◌++◌, map, length, get_or, take, drop, replicate, sym, ap, ◌∙◌, arith, append_assoc, length-append, refl, mul_comm, zero-mul, suc-mul, add-mul, mul-le-mul_right}
-use Rattle.elementwise.proofs.Words.{take-add, flat_map-append, length-map, get_or-map, same_lists, drop-drop, take-replicate, drop-replicate, All-from_get_or, All-append, length-map-range_with_len, get_or-map-range_with_len, Leaf, Descr, LeafValue, number, size, encode, item_size, leaves_of, no_leaf, LeavesInOrder, encode_from, decode_item, encode_item, item_from, item_at, length-item_at, joined, all_joined, joined_list, item_of_joined, multiples, can_cast, cast_item, source, with_leaf, cast_items, IsLeafCast, AreItems}
+use Rattle.elementwise.proofs.Words.{take-add, flat_map-append, length-map, get_or-map, same_lists, drop-drop, take-replicate, drop-replicate, All-from_get_or, All-append, length-map-range_with_len, get_or-map-range_with_len, Leaf, Descr, LeafValue, number, size, encode, item_size, leaves_of, leaf_at, no_leaf, LeavesInOrder, encode_from, decode_item, encode_item, item_from, item_at, length-item_at, joined, all_joined, joined_list, item_of_joined, multiples, can_cast, cast_item, source, with_leaf, cast_items, IsLeafCast, AreItems}
 use Rattle.elementwise.proofs.RowLaws.{AreBeside}
 use Rattle.elementwise.proofs.CastLaws.{row-kept, each-wide, length-cast_item, leaf-encoded, one_item}
 
@@ -66,14 +66,15 @@ encoded-from bytes o item p (leaf ∷ leaves) (value ∷ values) are =
 
 -- ---- all items
 
--- `n` items have zeros wherever there is no leaf
-pub record HaveZeros (to : Descr) (n : ℕ) (bytes : List ℕ) : Type 0 where
-  pub zeros : (at width : ℕ) → at + width ≤ item_size to → IsGap (leaves_of to) at width → (j : ℕ) → j < n → item_at (at + j * item_size to) width bytes ≡ replicate width 0
+-- `n` items have zeros wherever there is none of the first `k` leaves
+pub record HaveZeros (to : Descr) (n k : ℕ) (bytes : List ℕ) : Type 0 where
+  pub zeros : (at width : ℕ) → at + width ≤ item_size to → ((i : ℕ) → i < k → i < length (leaves_of to) → AreBeside at width (leaf_at to i).at (size (leaf_at to i).scalar)) → (j : ℕ) → j < n →
+      item_at (at + j * item_size to) width bytes ≡ replicate width 0
 
 -- zeros have them
-pub all-zeros : (to : Descr) (n : ℕ) (bytes : List ℕ) → n * item_size to ≤ length bytes → bytes ≡ replicate (length bytes) 0 → HaveZeros to n bytes
+pub all-zeros : (to : Descr) (n : ℕ) (bytes : List ℕ) → n * item_size to ≤ length bytes → bytes ≡ replicate (length bytes) 0 → HaveZeros to n 0 bytes
 all-zeros to n bytes room are = record {
-  zeros = λ at width fits gap j low.
+  zeros = λ at width fits _ j low.
       let most : suc j * item_size to ≤ n * item_size to = mul-le-mul_right (item_size to) low in
       let o = at + j * item_size to in
       ap (item_at o width) are ∙ ap (take width) (drop-replicate o (length bytes) 0) ∙ take-replicate width (length bytes - o) 0 (omega (arith, room, most, fits, suc-mul j (item_size to)));
@@ -81,16 +82,22 @@ all-zeros to n bytes room are = record {
 
 -- they still do after a leaf is cast
 pub zeros-stay : (from to : Descr) (other offsets bytes bytes' : List ℕ) (k : ℕ) → k < length (leaves_of to) → length offsets * item_size to ≤ length bytes → LeavesInOrder to →
-    bytes' ≡ with_leaf from to other offsets k bytes → HaveZeros to (length offsets) bytes → HaveZeros to (length offsets) bytes'
+    bytes' ≡ with_leaf from to other offsets k bytes → HaveZeros to (length offsets) k bytes → HaveZeros to (length offsets) (k + 1) bytes'
 zeros-stay from to other offsets bytes bytes' k low room apart wrote have = record {
   zeros = λ at width fits gap j inside.
       ap (item_at (at + j * item_size to) width) wrote
-      ∙ row-kept to (length offsets) at width k _ bytes room fits (apart.within k low) (gap k low) (each-wide from to other offsets k) j inside
-      ∙ have.zeros at width fits gap j inside;
+      ∙ row-kept to (length offsets) at width k _ bytes room fits (apart.within k low) (gap k (omega arith) low) (each-wide from to other offsets k) j inside
+      ∙ have.zeros at width fits (λ i before. gap i (omega (arith, before))) j inside;
 }
 
+-- there are zeros where the next leaf goes
+pub zeros-next : (to : Descr) (n k : ℕ) (bytes : List ℕ) → HaveZeros to n k bytes → LeavesInOrder to → k < length (leaves_of to) →
+    (at width j : ℕ) → (leaf_at to k).at ≤ at → at + width ≤ (leaf_at to k).at + size (leaf_at to k).scalar → j < n → item_at (at + j * item_size to) width bytes ≡ replicate width 0
+zeros-next to n k bytes have apart low at width j from ends =
+    have.zeros at width (omega (arith, ends, apart.within k low)) (λ i before _. inr (omega (arith, from, apart.apart i k before low))) j
+
 module _ (from to : Descr) (other offsets bytes : List ℕ) (long : length bytes ≡ length offsets * item_size to) (can : can_cast from to ≡ true) (cast : (k : ℕ) → k < length (leaves_of to) → IsLeafCast from to other offsets bytes k)
-    (have : HaveZeros to (length offsets) bytes) (apart : LeavesInOrder to) (within : (k : ℕ) → k < length (leaves_of to) → (source from k).at + size (source from k).scalar ≤ item_size from) where
+    (k : ℕ) (have : HaveZeros to (length offsets) k bytes) (apart : LeavesInOrder to) (within : (k : ℕ) → k < length (leaves_of to) → (source from k).at + size (source from k).scalar ≤ item_size from) where
   abbrev make : ℕ → List LeafValue
   make o = cast_item from to (item_from from other o)
 
@@ -109,7 +116,7 @@ module _ (from to : Descr) (other offsets bytes : List ℕ) (long : length bytes
         within = apart.within;
         apart = apart.apart;
         wrote = λ k inside. leaf-encoded from to other offsets bytes j k low can inside (cast k inside) (within k inside);
-        zeros = λ at width _ fits gap. have.zeros at width fits gap j low;
+        zeros = λ at width _ fits gap. have.zeros at width fits (λ i _. gap i) j low;
       })
 
   row-wide : (j : ℕ) → j < length offsets → length (row j) ≡ item_size to

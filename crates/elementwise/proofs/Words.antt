@@ -8,7 +8,7 @@ unfoldable pub use Rattle.elementwise.specs.Promotion.{compared_type, promote, p
 pub use Rattle.elementwise.specs.ResultLaws.{is_scalar}
 pub use Rattle.elementwise.specs.Results.{GivesArray, binary_item, compared_item, items_stretched, number_as, pairwise, scalar_of, stretched_items, truth_item, unary_item}
 unfoldable pub use Rattle.elementwise.specs.Results.{binary_result, bytes_compared_result, compared_result, integer_compared_result, unary_result}
-pub use Rattle.elementwise.specs.Words.{Add, And, AreAlike, AreBits, AreBytes, BeginsWithin, Big, BinOp, BoolScalar, Byte, Bytes, Comparison, Descr, Divide, EachWithin, Eight, Equal, Field, Fields, FitsBytes, FloorDivide, Four, Greater, GreaterOrEqual, Int, Invert, IsIndex, IsIndex-broadcast, IsIndex-reverse, IsNumber, IsStretchOf, IsValueOf, IsViewOf, Items, Layout, Leaf, LeafValue, LeavesInOrder, Less, LessOrEqual, LieWithin, Little, Modulo, Multiply, NeedsFloats, Negate, NotEqual, NotForThisKind, NotSameKind, Or, Order, OutOfMemory, Owned, RecordDescr, Refusal, Run, RunPair, Scalar, ScalarDescr, ShiftLeft, ShiftRight, Side, Structure, Subtract, Two, UnOp, View, Width, Xor, address_at, all_joined, all_stretch, before, big_from-cons, big_from-lt, big_number, broadcast_index, bytes-drop, bytes-take, can-itself, can_stretch, check, check_passed, check_test, common_shape, concat, count, count-reverse, decode, decode_encode, decode_item, encode, encode_from, encode_item, encode_wrap, false≢true, fewer, fields_of, fits-offsets, fits_eight_bytes, flat_map, fortran-all, fortran-at, fortran_order, get_or-indexes, get_or-offsets, index_at, indexes, int_wrap-low_bits, integer, integer-differs, integer-fits, is_bool, is_ok, is_signed, is_text, item_at, item_at-put_apart, item_at-put_same, item_from, item_in, item_of_joined, item_size, items, items_at, joined, joined-add, joined_list, leaf_at, leaves_from, leaves_of, length-encode, length-fortran, length-indexes, length-item_at, length-offsets, length-put, length-row, length-run_offsets, length-without_nuls, lie-within, list_all, listed, little, little_from, little_number, low_bits, low_bits-integer, low_bits-lt, max_bytes, multiples, natural, next_pair, no_leaf, no_more, not_negative, nth-offset, nuls, number, number-lt, number_in, number_of, number_of_side, number_size, numbers-split, numbers_from, offsets, offsets_within, one-encoded, owned_items, padded, place, place-at, position, position-add, put, rank, rank-lt, record_field, rest_at, row-multiples, row-split, row_offsets, run-ends, run-within, run_front, run_offsets, run_offsets-more, run_pairs, runs-within, same_answer, same_on_indexes, scalar_field, seen_fields, size, some_bytes, stretched-self, text, text_of, total, truth, truth-twice, truth_suc, value_in, view_through, weight, weight-one, width_size, with_items, without_nuls, without_nuls-back, without_nuls-more, without_nuls-twice, wrap, wrap_stays, ◌>>=◌}
+pub use Rattle.elementwise.specs.Words.{Add, And, AreAlike, AreBits, AreBytes, BeginsWithin, Big, BinOp, BoolScalar, Byte, Bytes, Comparison, Descr, Divide, EachWithin, Eight, Equal, Field, Fields, FitsBytes, FloorDivide, Four, Greater, GreaterOrEqual, Int, Invert, IsIndex, IsIndex-broadcast, IsIndex-reverse, IsNumber, IsStretchOf, IsValueOf, IsViewOf, Items, Layout, Leaf, LeafValue, LeavesInOrder, Less, LessOrEqual, LieWithin, Little, Modulo, Multiply, NeedsFloats, Negate, NotEqual, NotForThisKind, NotSameKind, Or, Order, OutOfMemory, Owned, RecordDescr, Refusal, Run, RunPair, Scalar, ScalarDescr, ShiftLeft, ShiftRight, Side, Structure, Subtract, Two, UnOp, View, Width, Xor, address_at, all_joined, all_stretch, before, big_from-cons, big_from-lt, big_number, broadcast_index, bytes-drop, bytes-take, can-itself, can_stretch, check, check_passed, check_test, common_shape, concat, count, count-reverse, decode, decode_encode, decode_item, encode, encode_from, encode_item, encode_wrap, false≢true, fewer, fields_of, fits-offsets, fits_eight_bytes, flat_map, fortran-all, fortran-at, fortran_order, get_or-indexes, get_or-offsets, index_at, indexes, int_wrap-low_bits, integer, integer-differs, integer-fits, is_bool, is_ok, is_signed, is_text, item_at, item_at-put_apart, item_at-put_same, item_from, item_in, item_of_joined, item_size, items, items_at, joined, joined-add, joined_list, leaf_at, leaves_from, leaves_of, length-encode, length-fortran, length-indexes, length-item_at, length-offsets, length-put, length-row, length-run_offsets, length-without_nuls, lie-within, list_all, listed, little, little_from, little_number, low_bits, low_bits-integer, low_bits-lt, max_bytes, multiples, natural, next_pair, no_leaf, no_more, not_negative, nth-offset, nuls, number, number-lt, number_in, number_of, number_of_side, number_size, numbers-split, numbers_from, offsets, offsets_within, one-encoded, owned_items, padded, place, place-at, place_within, position, position-add, put, rank, rank-lt, record_field, rest_at, row-multiples, row-split, row_offsets, run-ends, run-within, run_front, run_offsets, run_offsets-more, run_pairs, runs-within, same_answer, same_on_indexes, scalar_field, seen_fields, size, some_bytes, stretched-self, text, text_of, total, truth, truth-twice, truth_suc, value_in, view_through, weight, weight-one, width_size, with_items, without_nuls, without_nuls-back, without_nuls-more, without_nuls-twice, wrap, wrap_stays, ◌>>=◌}
 pub use Rattle.elementwise.specs.declared.fast.chunks.InRuns.{InRuns}
 pub use Rattle.elementwise.specs.declared.loops.row_pairs.Broadcast.{Broadcast}
 pub use Rattle.elementwise.specs.declared.pairing.Work.{Work}
@@ -56,5 +56,5 @@ pub use Rattle.std.specs.List.{AllByRecursion as Each, range_with_len}
 pub use Rattle.std.specs.Ordering.{is_gt, is_lt, nat_cmp}
 pub use Rattle.std.specs.declared.alloc.AllocError.{AllocError}
 pub use Rattle.std.specs.declared.cmp.Ordering.{Ordering}
-pub use lib.IntN.{*ℤ-zero, +ℤ_idr}
+pub use lib.IntN.{+ℤ_idr}
 pub use mir.Val.{SFits, bool_byte, of_z, to_z}

@@ -11,7 +11,7 @@ pub use Rattle.elementwise.specs.inside.Combined.{AreCastable, AreCompared, AreC
 pub use Rattle.elementwise.specs.inside.FieldCasts.{can_cast_field}
 pub use Rattle.elementwise.specs.inside.Held.{held_descr, held_items, held_shape}
 pub use Rattle.elementwise.specs.inside.LeafCasts.{HasSource, IsCut, cast_items, run_part, source}
-pub use Rattle.elementwise.specs.inside.Made.{AreCast, AreItems, IsCast, IsMade}
+pub use Rattle.elementwise.specs.inside.Made.{AreItems, IsCast, IsMade}
 pub use Rattle.elementwise.specs.inside.Operands.{AreAllMade, pairs_of}
 pub use Rattle.elementwise.specs.inside.PairPasses.{division_op, number_pair, said, says_number, text_pair, text_said}
 pub use Rattle.elementwise.specs.inside.Shrunk.{IsShrunk}

@@ -56,7 +56,7 @@ pub use Rattle.machine_numbers.specs.Kinds.{is_bool, is_signed, is_text, little}
 pub use Rattle.machine_numbers.specs.Sides.{item_in, number_of_side}
 pub use Rattle.machine_numbers.specs.declared.sides.Side.{Side}
 pub use Rattle.raw_block.specs.Bytes.{EachWithin, item_at, joined, place, position, put}
-pub use Rattle.raw_block.specs.BytesLaws.{fewer, item_at-put_apart, item_at-put_same, length-item_at, length-put, not_negative, position-add}
+pub use Rattle.raw_block.specs.BytesLaws.{fewer, item_at-put_apart, item_at-put_same, length-item_at, length-put, not_negative, place_within, position-add}
 pub use Rattle.raw_block.specs.JoinedLaws.{all_joined, item_of_joined, joined-add, joined_list}
 pub use Rattle.shape_strides.specs.Addresses.{LieWithin, address_at, natural}
 pub use Rattle.shape_strides.specs.Contiguity.{fortran_order}

@@ -1,19 +1,19 @@
 //! Casts: the items of an array as items of another element type.
 ghost use Rattle.std.specs.Prelude.{IfErr, IfOk, IsTrue, if◌then◌else◌, length, map, nat_le, true, ◌*◌, ◌+◌, ◌≡◌, ◌≤◌};
-ghost use Rattle.elementwise.specs.Clauses.{Bytes, EachWithin, ScalarDescr, can_cast, cast_item, C, IsNumber, NoSuchCast, OutOfMemory, TooLarge, count, encode_item, held_descr, held_items, held_shape, item_from, item_size, items, max_bytes, max_items, offsets, offsets_in, owned_items, place, run_offsets, size, HasSource, IsCut, cast_items, run_part, source, AreCast, AreItems, IsCast, flat_map};
+ghost use Rattle.elementwise.specs.Clauses.{Bytes, EachWithin, ScalarDescr, can_cast, cast_item, C, IsNumber, NoSuchCast, OutOfMemory, TooLarge, count, encode_item, held_descr, held_items, held_shape, item_from, item_size, items, max_bytes, max_items, offsets, offsets_in, owned_items, place, run_offsets, size, HasSource, IsCut, cast_items, source, AreItems, IsCast, flat_map};
 
 use crate::fast::columns::made;
 use crate::held::{Held, keeps_items};
-use crate::kernels::leaf_casts::{Column, Places};
+use crate::kernels::leaf_casts::Column;
 use crate::loops::row_pairs::Operands;
 use crate::pairing::{Pairing, Work};
 use crate::rules::castable::{can_cast, leaf_of};
 use crate::tuning::{BAND, FEWEST_IN_BAND};
-use arrays::{Items, Owned, copy_run, gather};
+use arrays::{Items, Owned, bytes_of, gather};
 use elem_descr::{Descr, Leaf, MemoryOrder, Refusal, Scalar};
-use machine_numbers::{Side, is_text, place};
+use machine_numbers::{is_text, place};
 use raw_block::{BlockBuilder, RawBlock};
-use shape_strides::{MAX_BYTES, Run};
+use shape_strides::Run;
 use std::alloc::{AllocError, Global};
 
 /// The leaf that is cast to the one with this number.
@@ -52,57 +52,41 @@ pub(crate) fn cast_numbers(
     made(alloc, &pairing, operands)
 }
 
-/// Some of the items of a run, starting with one of them.
-fn part(items: Side<'_>, first: usize, count: usize) -> Side<'_>
-    requires some { 1 ≤ count }
-    requires within { first + count ≤ items.run.count }
-    ensures run { result.run ≡ run_part items.entry.run first count }
-    ensures bytes { result.bytes.now ≡ items.entry.bytes.now }
-    ensures width { result.width ≡ items.entry.width }
-{
-    let run = Run {
-        offset: place(items.run, first),
-        count,
-        step: items.run.step,
-    };
-    Side {
-        bytes: items.bytes,
-        run,
-        width: items.width,
-    }
-}
-
 /// A block with exactly the items of a run, cast leaf by leaf: all items' first leaves, then their
 /// second ones, and so on.
 fn cast_band(
     alloc: Global,
-    from: Side<'_>,
+    block: &RawBlock,
+    run: Run,
     descr: &Descr,
     to: &Descr,
 ) -> Result<RawBlock, AllocError>
-    requires wide { from.width ≡ item_size descr.now }
+    requires some { 1 ≤ run.count }
+    requires count { run.count ≤ max_items }
+    requires within { EachWithin
+        (length block.now) run.offset run.step (item_size descr.now) run.count }
     requires can { can_cast descr.now to.now ≡ true }
-    requires few { from.run.count * item_size to.now ≤ max_bytes }
-    ensures { IfOk result (AreCast from.entry descr.now to.now) }
+    requires few { run.count * item_size to.now ≤ max_bytes }
+    ensures { IfOk result
+        (AreItems to.now (cast_items descr.now to.now block.now (run_offsets run))) }
 {
     let _from_item = descr.size();
+    let _len = block.len();
     let row = to.size();
-    let bytes = from.bytes;
-    let mut rows = RawBlock::try_zeroed(alloc, from.run.count * row)?;
+    let mut rows = RawBlock::try_zeroed(alloc, run.count * row)?;
     for k in 0..to.leaf_count() {
         let leaf = leaf_of(to, k);
         let source = source_of(descr, k);
+        let from = Run {
+            offset: run.offset + source.at,
+            count: run.count,
+            step: run.step,
+        };
         let column = Column {
-            from: Side {
-                bytes: &bytes[source.at.min(bytes.len())..],
-                run: from.run,
-                width: source.scalar.size(),
-            },
-            to: Places {
-                at: leaf.at,
-                width: leaf.scalar.size(),
-                row,
-            },
+            block,
+            from,
+            at: leaf.at,
+            row,
             rows,
         };
         rows = column.cast(&source.scalar, &leaf.scalar);
@@ -110,90 +94,44 @@ fn cast_band(
     Ok(rows)
 }
 
-/// A block with exactly the items of a run, cast in bands that stay in the cache, so that each line
-/// of the block is written once.
+/// A block with exactly the items of a run, cast. Many items of several leaves are cast in bands
+/// that stay in the cache, so that each line of the block is written once.
 fn cast_bands(
     alloc: Global,
-    from: Side<'_>,
-    descr: &Descr,
-    to: &Descr,
-) -> Result<RawBlock, AllocError>
-    requires wide { from.width ≡ item_size descr.now }
-    requires can { can_cast descr.now to.now ≡ true }
-    requires few { from.run.count * item_size to.now ≤ max_bytes }
-    ensures { IfOk result (AreCast from.entry descr.now to.now) }
-{
-    let count = from.run.count;
-    let size = to.size();
-    let most = FEWEST_IN_BAND.max(BAND / size);
-    let mut cast = BlockBuilder::try_new(alloc, count * size)?;
-    let mut done = 0;
-    while done < count {
-        let next = most.min(count - done);
-        let band = cast_band(alloc, part(from, done, next), descr, to)?;
-        cast.push_bytes(band.bytes());
-        done += next;
-    }
-    Ok(cast.finish())
-}
-
-/// A block with exactly the byte strings of a run, each padded with NULs to a length.
-fn pad(
-    alloc: Global,
-    block: &RawBlock,
-    run: Run,
-    width: usize,
-    len: usize,
-) -> Result<RawBlock, AllocError>
-    requires within { EachWithin (length block.now) run.offset run.step width run.count }
-    requires some { 1 ≤ len }
-    requires longer { width ≤ len }
-    requires small { len ≤ max_bytes }
-    requires few { run.count * len ≤ max_bytes }
-    ensures { IfOk result
-        (AreItems (ScalarDescr (Bytes len))
-        (cast_items (ScalarDescr (Bytes width)) (ScalarDescr (Bytes len)) block.now
-        (run_offsets run))) }
-{
-    let mut padded = RawBlock::try_zeroed(alloc, run.count * len)?;
-    let to = Run {
-        offset: 0,
-        count: run.count,
-        step: len as isize,
-    };
-    copy_run(&mut padded, to, block, run, width);
-    Ok(padded)
-}
-
-/// A block with exactly the items of a run, cast. Byte strings that get longer are copied over
-/// NULs.
-fn cast_run(
-    alloc: Global,
     block: &RawBlock,
     run: Run,
     descr: &Descr,
     to: &Descr,
 ) -> Result<RawBlock, AllocError>
+    requires count { run.count ≤ max_items }
     requires within { EachWithin
         (length block.now) run.offset run.step (item_size descr.now) run.count }
-    requires count { run.count ≤ max_items }
     requires can { can_cast descr.now to.now ≡ true }
     requires few { run.count * item_size to.now ≤ max_bytes }
     ensures { IfOk result
         (AreItems to.now (cast_items descr.now to.now block.now (run_offsets run))) }
 {
-    match (descr, to) {
-        (Descr::Scalar(Scalar::Bytes(width)), Descr::Scalar(Scalar::Bytes(len)))
-            if width.get() <= len.get() => pad(alloc, block, run, width.get(), len.get()),
-        _ => {
-            let items = Side {
-                bytes: block.bytes(),
-                run,
-                width: descr.size(),
-            };
-            cast_bands(alloc, items, descr, to)
-        }
+    let _len = block.len();
+    let count = run.count;
+    let size = to.size();
+    let most = FEWEST_IN_BAND.max(BAND / size);
+    if count > 0 && (count <= most || to.leaf_count() == 1) {
+        return cast_band(alloc, block, run, descr, to);
     }
+    let mut cast = BlockBuilder::try_new(alloc, count * size)?;
+    let mut done = 0;
+    while done < count {
+        let next = most.min(count - done);
+        let part = Run {
+            offset: place(run, done),
+            count: next,
+            step: run.step,
+        };
+        let band = cast_band(alloc, block, part, descr, to)?;
+        cast.push_bytes(band.bytes());
+        done += next;
+    }
+    Ok(cast.finish())
 }
 
 /// Whether a cast keeps the first bytes of each item: that of byte strings which do not get longer.
@@ -222,7 +160,7 @@ fn cast_block(alloc: Global, from: Items<'_>, to: &Descr) -> Result<RawBlock, Al
     }
     let count = from.layout.shape.items();
     if let Some(run) = from.layout.as_one_run() {
-        return cast_run(alloc, from.block, run, from.descr, to);
+        return cast_bands(alloc, from.block, run, from.descr, to);
     }
     let width = from.descr.size();
     let packed = gather(alloc, from.block, from.layout, width)?;
@@ -231,7 +169,7 @@ fn cast_block(alloc: Global, from: Items<'_>, to: &Descr) -> Result<RawBlock, Al
         count,
         step: width as isize,
     };
-    cast_run(alloc, &packed, run, from.descr, to)
+    cast_bands(alloc, &packed, run, from.descr, to)
 }
 
 /// Items, cast to an element type for which the cast exists.
@@ -298,8 +236,6 @@ pub fn cast(alloc: Global, from: Items<'_>, to: &Descr) -> Result<Owned, Refusal
     if !can_cast(from.descr, to) {
         return Err(Refusal::NoSuchCast);
     }
-    if from.layout.shape.items() * to.size() > MAX_BYTES {
-        return Err(Refusal::TooLarge);
-    }
+    bytes_of(from.layout.shape.items(), to)?;
     Ok(cast_items(alloc, from, to)?)
 }

@@ -4,18 +4,17 @@ ghost use Rattle.raw_block.specs.Bytes.{position, place, EachWithin};
 
 use crate::byte_orders::Ordered;
 use crate::numbers::Number;
+use raw_block::Steps;
 use shape_strides::Run;
 
 /// The place of the `k`-th item of a run.
 #[inline(always)]
 pub fn place(run: Run, k: usize) -> usize
-    requires few { k < 2 ^ 63 }
-    requires start { run.offset < 2 ^ 63 }
     requires low { pos 0 ≤ℤ position run.offset run.step k }
-    requires high { position run.offset run.step k <ℤ pos (2 ^ 63) }
+    requires high { position run.offset run.step k <ℤ pos (2 ^ 64) }
     ensures { result ≡ place run.offset run.step k }
 {
-    (run.offset as isize + k as isize * run.step) as usize
+    Steps::new(run.offset, run.step).place(k)
 }
 
 /// A run of items of `width` bytes each, in a slice of bytes.

@@ -1,6 +1,6 @@
 -- New arrays.
 use Rattle.std.specs.Prelude.{◌≡◌, ◌*◌, ℕ, List, length, map, reverse, All}
-use Rattle.elementwise.specs.Words.{flat_map, Descr, LeafValue, item_size, decode_item, encode_item, item_from, Items, Layout, fortran_order, count, offsets, run_offsets, multiples, Owned, Side}
+use Rattle.elementwise.specs.Words.{flat_map, Descr, LeafValue, item_size, decode_item, encode_item, item_from, Items, Layout, fortran_order, count, offsets, multiples, Owned}
 use Rattle.elementwise.specs.inside.LeafCasts.{cast_items}
 
 -- an array of this element type and shape, in C order, whose items are `values` and whose bytes are the encoded values
@@ -26,7 +26,3 @@ pub record AreItems (descr : Descr) (values : List (List LeafValue)) (bytes : Li
   pub encoded : bytes ≡ flat_map (encode_item descr) values
   pub wide : All (λ value. length (encode_item descr value) ≡ item_size descr) values
   pub back : All (λ value. decode_item descr (encode_item descr value) ≡ value) values
-
--- the bytes are the items of a run, cast to an element type
-abbrev pub AreCast : Side → Descr → Descr → List ℕ → Type 0
-AreCast side from to = AreItems to (cast_items from to side.bytes.now (run_offsets side.run))

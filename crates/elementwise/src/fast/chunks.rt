@@ -101,7 +101,9 @@ fn push_chunk(
     Ok(pairing.push(block, operands))
 }
 
-/// The results for the items of two operands, in their shape.
+/// The results for the items of two operands, in their shape. Its frame is large, so it is not
+/// inlined.
+#[inline(never)]
 fn make_by_chunks(alloc: Global, pairing: &Pairing, runs: InRuns<'_>) -> Result<Owned, AllocError>
     requires { AreCastable pairing.now runs.both }
     ensures { IfOk result (IsCombined pairing.now runs.entry.both) }
@@ -177,8 +179,8 @@ pub(crate) fn make_cast(
         };
         return made(alloc, pairing, operands);
     }
-    match in_runs(both) {
-        Some(runs) => make_by_chunks(alloc, pairing, runs),
-        None => make_whole(alloc, pairing, both),
+    if let Some(runs) = in_runs(both) {
+        return make_by_chunks(alloc, pairing, runs);
     }
+    make_whole(alloc, pairing, both)
 }

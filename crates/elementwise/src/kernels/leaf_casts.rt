@@ -1,123 +1,68 @@
 //! Casts one field of many records, each value into its own record.
-ghost use Rattle.std.specs.Prelude.{◌≡◌, ◌+◌, ◌*◌, ◌≤◌, ℕ, List, length, take};
-ghost use Rattle.elementwise.specs.Words.{IsNumber, size, put, padded, without_nuls, item_in};
+ghost use Rattle.std.specs.Prelude.{◌≡◌, ◌*◌, ◌+◌, ◌≤◌, length, replicate, true, IsTrue, ◌-◌};
+ghost use Rattle.elementwise.specs.Words.{IsNumber, size, put, item_in, EachWithin, max_items};
+ghost use Rattle.elementwise.specs.Casts.{can_cast_scalar};
 ghost use Rattle.elementwise.specs.inside.LeafCasts.{leaf_cast};
-ghost use Rattle.elementwise.specs.inside.Columns.{HasRoom, with_leaves, AreRows};
+ghost use Rattle.elementwise.specs.inside.Columns.{HasZeros, IsColumn, with_leaves, AreRows};
 
+use arrays::copy_run;
 use elem_descr::Scalar;
 use machine_numbers::{Number, NumberTask, Ordered, Side, on_number};
 use raw_block::RawBlock;
+use shape_strides::Run;
 use std::marker::PhantomData;
 
-/// A cast of a leaf, as bytes to bytes.
-pub(crate) trait LeafCast {
-    // The bytes of the result.
-    ghost makes: { Self → List ℕ → List ℕ };
-
-    // The sizes that it accepts.
-    ghost Reads: { Self → ℕ → Type 0 };
-
-    // The size of the result.
-    ghost width: { Self → ℕ };
-
-    fn cast(&self, item: &[u8], place: &mut [u8])
-        requires item { Reads self.now (length item.now) }
-        requires place { length place.old ≡ width self.now }
-        ensures { place.new ≡ makes self.now item.now };
-}
-
-/// A number, cast to another type.
-struct CastingNumbers<S, P, T, Q>(PhantomData<(S, P, T, Q)>);
-
-impl<S: Number, P: Ordered, T: Number, Q: Ordered> LeafCast for CastingNumbers<S, P, T, Q> {
-    ghost makes = { λ _. leaf_cast (S.scalar P.order) (T.scalar Q.order) };
-
-    ghost Reads = { λ _ width. width ≡ S.WIDTH };
-
-    ghost width = { λ _. T.WIDTH };
-
-    #[inline(always)]
-    fn cast(&self, item: &[u8], place: &mut [u8]) {
-        T::of_bits(S::read::<P>(item).bits()).write::<Q>(place);
-    }
-}
-
-/// Byte strings that are cut to this length or padded with NULs.
-#[derive(Clone, Copy, Drop)]
-pub(crate) struct Cutting {
-    pub(crate) width: usize,
-}
-
-impl LeafCast for Cutting {
-    ghost makes = { λ t item. padded t.width (without_nuls (take t.width (without_nuls item))) };
-
-    ghost Reads = { λ _ _. Unit {0} };
-
-    ghost width = { λ t. t.width };
-
-    fn cast(&self, item: &[u8], place: &mut [u8]) {
-        let kept = item.len().min(self.width);
-        let (front, back) = place.split_at_mut(kept);
-        front.copy_from_slice(&item[..kept]);
-        back.fill(0);
-    }
-}
-
-/// The place of a leaf in each of many adjacent rows.
-#[derive(Clone, Copy, Drop)]
-pub(crate) struct Places {
-    pub(crate) at: usize,
-    pub(crate) width: usize,
-    /// The size of a row in bytes.
-    pub(crate) row: usize,
-}
-
-/// Casts a leaf, and writes it at a place.
-#[inline(always)]
-fn put_one<C: LeafCast>(cast: &C, item: &[u8], at: usize, width: usize, bytes: &mut [u8])
-    requires reads { C.Reads cast.now (length item.now) }
-    requires width { width ≡ C.width cast.now }
-    requires room { at + width ≤ length bytes.old }
-    ensures { bytes.new ≡ put at (C.makes cast.now item.now) bytes.old }
-{
-    cast.cast(item, &mut bytes[at..at + width]);
-}
-
-/// Casts each leaf of a run, and writes it to its row.
-#[inline(always)]
-fn put_each<C: LeafCast>(cast: &C, from: Side<'_>, to: Places, bytes: &mut [u8])
-    requires reads { C.Reads cast.now from.width }
-    requires width { to.width ≡ C.width cast.now }
-    requires room { HasRoom from to (length bytes.old) }
-    ensures { bytes.new
-        ≡ with_leaves (λ k. C.makes cast.now (item_in from.entry k)) to.at to.row
-        from.entry.run.count bytes.old }
-{
-    for k in 0..from.run.count {
-        put_one(cast, from.item(k), to.at + k * to.row, to.width, bytes);
-    }
-}
-
-/// A run of leaves, and the rows that they are cast to.
+/// A run of leaves, and the rows of `row` bytes that they are cast to: each leaf goes to the offset
+/// `at` in its row.
 #[derive(Drop)]
 pub(crate) struct Column<'a> {
-    pub(crate) from: Side<'a>,
-    pub(crate) to: Places,
+    pub(crate) block: &'a RawBlock,
+    pub(crate) from: Run,
+    pub(crate) at: usize,
+    pub(crate) row: usize,
     pub(crate) rows: RawBlock,
 }
 
-impl<'a> Column<'a> {
-    /// The rows with the cast leaves. The block is passed in and returned.
-    fn cast_by<C: LeafCast>(self, cast: &C) -> RawBlock
-        requires reads { C.Reads cast.now self.from.width }
-        requires width { self.to.width ≡ C.width cast.now }
-        requires room { HasRoom self.from self.to (length self.rows) }
-        ensures { AreRows (C.makes cast.now) self.entry result }
-    {
-        let Column { from, to, rows } = self;
-        let mut rows = rows;
-        put_each(cast, from, to, rows.bytes_mut());
-        rows
+/// Writes a number as one of another type.
+#[inline(always)]
+fn cast_one<S: Number, P: Ordered, T: Number, Q: Ordered>(item: &[u8], place: &mut [u8])
+    requires item { length item.now ≡ S.WIDTH }
+    requires place { length place.old ≡ T.WIDTH }
+    ensures { place.new ≡ leaf_cast (S.scalar P.order) (T.scalar Q.order) item.now }
+{
+    T::of_bits(S::read::<P>(item).bits()).write::<Q>(place);
+}
+
+/// Casts a number, and writes it at an offset.
+#[inline(always)]
+fn put_one<S: Number, P: Ordered, T: Number, Q: Ordered>(item: &[u8], at: usize, bytes: &mut [u8])
+    requires item { length item.now ≡ S.WIDTH }
+    requires room { at + T.WIDTH ≤ length bytes.old }
+    ensures { bytes.new
+        ≡ put at (leaf_cast (S.scalar P.order) (T.scalar Q.order) item.now) bytes.old }
+{
+    cast_one::<S, P, T, Q>(item, &mut bytes[at..at + T::WIDTH]);
+}
+
+/// Casts each number of a run, and writes it to its row.
+#[inline(always)]
+fn put_each<S: Number, P: Ordered, T: Number, Q: Ordered>(
+    from: Side<'_>,
+    at: usize,
+    row: usize,
+    bytes: &mut [u8],
+)
+    requires from { from.width ≡ S.WIDTH }
+    requires fits { at + T.WIDTH ≤ row }
+    requires room { from.run.count * row ≤ length bytes.old }
+    ensures len { length bytes.new ≡ length bytes.old }
+    ensures bytes { bytes.new
+        ≡ with_leaves
+        (λ k. leaf_cast (S.scalar P.order) (T.scalar Q.order) (item_in from.entry k)) at row
+        from.entry.run.count bytes.old }
+{
+    for k in 0..from.run.count {
+        put_one::<S, P, T, Q>(from.item(k), at + k * row, bytes);
     }
 }
 
@@ -130,10 +75,9 @@ struct CastingFrom<'a, S, P>(Column<'a>, PhantomData<(S, P)>);
 impl<'a> NumberTask for CastingTo<'a> {
     type Out = RawBlock;
 
-    ghost Needs = { λ t scalar. IsNumber t.1 × (t.0.from.width ≡ size scalar)
-        × (t.0.to.width ≡ size t.1) × HasRoom t.0.from t.0.to (length t.0.rows) };
+    ghost Needs = { λ t scalar. IsNumber t.1 × IsColumn t.0 (size scalar) (size t.1) };
 
-    ghost Gives = { λ t scalar rows. AreRows (leaf_cast scalar t.1) t.0 rows };
+    ghost Gives = { λ t scalar rows. AreRows scalar t.1 t.0 rows };
 
     fn run<S: Number, P: Ordered>(self) -> RawBlock {
         let CastingTo(column, to) = self;
@@ -144,33 +88,55 @@ impl<'a> NumberTask for CastingTo<'a> {
 impl<'a, S: Number, P: Ordered> NumberTask for CastingFrom<'a, S, P> {
     type Out = RawBlock;
 
-    ghost Needs = { λ t scalar. (t.0.from.width ≡ S.WIDTH) × (t.0.to.width ≡ size scalar)
-        × HasRoom t.0.from t.0.to (length t.0.rows) };
+    ghost Needs = { λ t scalar. IsColumn t.0 S.WIDTH (size scalar) };
 
-    ghost Gives = { λ t scalar rows. AreRows (leaf_cast (S.scalar P.order) scalar) t.0 rows };
+    ghost Gives = { λ t scalar rows. AreRows (S.scalar P.order) scalar t.0 rows };
 
     fn run<T: Number, Q: Ordered>(self) -> RawBlock {
         let CastingFrom(column, _) = self;
-        column.cast_by(&CastingNumbers::<S, P, T, Q>(PhantomData))
+        let Column {
+            block,
+            from,
+            at,
+            row,
+            rows,
+        } = column;
+        let mut rows = rows;
+        let side = Side {
+            bytes: block.bytes(),
+            run: from,
+            width: S::WIDTH,
+        };
+        put_each::<S, P, T, Q>(side, at, row, rows.bytes_mut());
+        rows
     }
 }
 
 impl<'a> Column<'a> {
-    ghost use Rattle.elementwise.specs.Casts.{can_cast_scalar};
-    ghost use Rattle.std.specs.Prelude.{true};
-
-    /// The rows with the leaves of one scalar, cast to another.
+    /// The rows with the leaves of one scalar, cast to another. Byte strings are copied over zeros.
     pub(crate) fn cast(self, scalar: &Scalar, to: &Scalar) -> RawBlock
         requires can { can_cast_scalar scalar.now to.now ≡ true }
-        requires from { self.from.width ≡ size scalar.now }
-        requires to { self.to.width ≡ size to.now }
-        requires room { HasRoom self.from self.to (length self.rows) }
-        ensures { AreRows (leaf_cast scalar.now to.now) self.entry result }
+        requires column { IsColumn self (size scalar.now) (size to.now) }
+        requires zeros { HasZeros self (size to.now) }
+        ensures { AreRows scalar.now to.now self.entry result }
     {
         match (scalar, to) {
-            (Scalar::Bytes(_), Scalar::Bytes(width)) => {
-                let width = width.get();
-                self.cast_by(&Cutting { width })
+            (Scalar::Bytes(width), Scalar::Bytes(len)) => {
+                let Column {
+                    block,
+                    from,
+                    at,
+                    row,
+                    rows,
+                } = self;
+                let mut rows = rows;
+                let to = Run {
+                    offset: at,
+                    count: from.count,
+                    step: row as isize,
+                };
+                copy_run(&mut rows, to, block, from, width.get().min(len.get()));
+                rows
             }
             _ => on_number(scalar, CastingTo(self, *to)),
         }

@@ -5,11 +5,11 @@ use Rattle.elementwise.proofs.casts.cast_bands.Given as goal
 -- the first items are cast
 abbrev pub invariant-loop-done : goal.invariant-loop-done
 invariant-loop-done l =
-    let run = l.from.run in
+    let run = l.run in
     record {
       few : l.done ≤ l.count;
       room : l.done * l.size + l.cast.1 ≡ l.count * l.size;
-      cast : AreItems l.to (cast_items l.descr l.to l.from.bytes.now (run_offsets (record { offset = run.offset; count = l.done; step = run.step }))) l.cast.0;
+      cast : AreItems l.to (cast_items l.descr l.to l.block (run_offsets (record { offset = run.offset; count = l.done; step = run.step }))) l.cast.0;
     }
 
 abbrev pub decreases-loop-done : goal.decreases-loop-done

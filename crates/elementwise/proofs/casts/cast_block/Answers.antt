@@ -7,23 +7,23 @@ use Rattle.elementwise.proofs.casts.cast_block.Goals as goal
 
 -- ---- items that are one run
 
-pub cast_run-requires-clause-within : goal.cast_run-requires-clause-within
-cast_run-requires-clause-within c =
+pub cast_bands-requires-clause-within : goal.cast_bands-requires-clause-within
+cast_bands-requires-clause-within c =
     let x = c.args.from in
     run-inside x c.in-Some.run' c.in-Some.ensures.items (c.in-Some.ensures.lie max_bytes 1 x.layout.now.within_limit)
 
-pub cast_run-requires-clause-count : goal.cast_run-requires-clause-count
-cast_run-requires-clause-count c =
+pub cast_bands-requires-clause-count : goal.cast_bands-requires-clause-count
+cast_bands-requires-clause-count c =
     omega (arith, count-run c.args.from.layout.now c.in-Some.run' c.in-Some.ensures.items, c.items-count.ensures.value, c.items-count.ensures.limit)
 
-pub cast_run-requires-clause-few : goal.cast_run-requires-clause-few
-cast_run-requires-clause-few c =
+pub cast_bands-requires-clause-few : goal.cast_bands-requires-clause-few
+cast_bands-requires-clause-few c =
     omega (arith, ap (λ n. n * item_size c.args.to.now) (count-run c.args.from.layout.now c.in-Some.run' c.in-Some.ensures.items), c.requires.few)
 
 -- ---- items that are gathered first
 
-pub cast_run-requires-2-clause-within : goal.cast_run-requires-2-clause-within
-cast_run-requires-2-clause-within c =
+pub cast_bands-requires-2-clause-within : goal.cast_bands-requires-2-clause-within
+cast_bands-requires-2-clause-within c =
     let w = c.size-width.result in
     let n = c.items-count.result in
     let bytes = c.in_ok-packed.packed in
@@ -45,7 +45,7 @@ returns c =
     let here : run_offsets (record { offset = 0; count = c.items-count.result; step = to_z w64 w }) ≡ row_offsets 0 w (length os) = λ i. run_offsets (record { offset = 0; count = many i; step = near i }) in
     let same = (λ i. items_at (row-multiples w (length os) i) w bytes) ∙ c.in_ok-packed.ensures.items in
     let values = (λ i. cast_items from to bytes (here i)) ∙ same-cast from to w bytes x.block.now (row_offsets 0 w (length os)) os c.size-width.ensures.value same in
-    IfOk-weaker c.cast_run-2.result _ _ (λ out are. subst (λ vs. AreItems to vs out) values are) c.cast_run-2.ensures
+    IfOk-weaker c.cast_bands-2.result _ _ (λ out are. subst (λ vs. AreItems to vs out) values are) c.cast_bands-2.ensures
 
 -- ---- byte strings that are cut
 

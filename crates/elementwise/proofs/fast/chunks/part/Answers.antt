@@ -1,12 +1,7 @@
 use Rattle.std.proofs.Common.{◌≡◌, ◌<◌, [], ◌∷◌, rules, w64, sym, ap, subst, ◌∙◌, arith}
 use Rattle.elementwise.proofs.Words.{false≢true, ints, to_z-of_z, SFits, LieWithin, count, max_bytes, lie-within, run_part}
-use Rattle.elementwise.proofs.ChunkLaws.{begins-at, one-axis, part-begins}
+use Rattle.elementwise.proofs.ChunkLaws.{one-axis, part-begins}
 use Rattle.elementwise.proofs.fast.chunks.part.Goals as goal
-
-pub place-requires-clause-start : goal.place-requires-clause-start
-place-requires-clause-start c =
-    let low = begins-at c.args.run (omega (arith, c.requires.some, c.requires.within)) c.requires.begins in
-    omega (arith, low)
 
 pub place-requires-clause-low : goal.place-requires-clause-low
 place-requires-clause-low c = ((lie-within max_bytes 1 c.args.run c.requires.begins).each c.args.first (omega (arith, c.requires.some, c.requires.within))).0

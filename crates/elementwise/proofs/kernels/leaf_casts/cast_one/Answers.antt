@@ -1,7 +1,7 @@
 use Rattle.std.proofs.Common.{sym, ap, ◌∙◌}
 use Rattle.elementwise.proofs.Words.{number, decode, encode, wrap, number_of}
 use Rattle.elementwise.proofs.LeafLaws.{cast_number}
-use Rattle.elementwise.proofs.kernels.leaf_casts.CastingNumbersLeafCast.cast.Goals as goal
+use Rattle.elementwise.proofs.kernels.leaf_casts.cast_one.Goals as goal
 
 pub returns : goal.returns
 returns g c =
