@@ -16,15 +16,16 @@ CRATE, JOBS = "bench_c", str(min(len(os.sched_getaffinity(0)), prove.MOST_JOBS))
 # (rattle starts clang with no environment)
 CLANG = """#!/bin/sh
 for word in "$@"; do case $word in *.bc) [ ! -f "$word" ] || cp "$word" "{out}/module.bc" ;; esac; done
-exec "{real}/bin/clang" "$@"
+exec "{real}/bin/clang" "$@" {more}
 """
 
 
-def toolchain(out):
-    """A folder of links to the toolchain's LLVM, with a clang that first copies each module that it is given to out/module.bc."""
+def toolchain(out, *more):
+    """A folder of links to the toolchain's LLVM, with a clang that first copies each module that it is given to out/module.bc, and has
+    more options than rattle gives it."""
     real, made = sources.kit_folder() / "toolchain", out / "toolchain"
     shutil.rmtree(made, ignore_errors=True)
-    sources.put(made / "bin", {"clang": CLANG.format(out=out, real=real).encode()})
+    sources.put(made / "bin", {"clang": CLANG.format(out=out, real=real, more=" ".join(more)).encode()})
     for path in [*real.iterdir(), *(real / "bin").iterdir()]:
         if path.name not in ("bin", "clang"):
             (made / path.relative_to(real)).symlink_to(path)
