@@ -102,6 +102,7 @@ impl<'a> ShortRows<'a> {
         items
     }
 
+    /// The same, with a loop of its own for each common width.
     #[inline(always)]
     fn push_on_width(self, items: BlockBuilder, source: Source<'_>) -> BlockBuilder
         requires { CanPush (short_offsets self) source items }
@@ -138,6 +139,7 @@ impl<'a> ShortRows<'a> {
         at
     }
 
+    /// The same, with a loop of its own for each common width.
     #[inline(always)]
     fn scatter_on_width(self, block: &mut RawBlock, source: PackedItems<'_>) -> usize
         requires { CanPut (short_offsets self) source block.old }
@@ -171,6 +173,7 @@ impl<'a> ShortRows<'a> {
         }
     }
 
+    /// The same, with a loop of its own for each common width.
     #[inline(always)]
     fn fill_on_width(self, block: &mut RawBlock, item: &[u8])
         requires { FitAt (short_offsets self) (length item.now) block.old }
