@@ -1,6 +1,6 @@
 -- The parts of an index list, item by item.
 use Rattle.std.proofs.Common.{◌≡◌, inl, inr, Ok, ℕ, ◌+◌, ℤ, ◌<◌, ◌≤◌, Bool, true, false, ◌&&◌, List, [], ◌∷◌, ◌++◌, map, length, get_or, take, refl, sym, ap, subst, ◌∙◌, arith, append_assoc, append-nil}
-use Rattle.fancy_index.proofs.Words.{is_ok, list_all, flat_map, and-true, and_assoc, and_parts, false≢true, map-append, list_all-append, list_all_at, list_all_more, Refusal, IndexOutOfRange, check, IndexItem, Integer, AxisPick, is_place, whole, has_step, pick_shown, ArePicks, AtAxis, AlongAxis, NewAxis, PointList, IndexPart, AxisPart, PointsPart, BetweenPart, IndexArray, is_index, array_axes_taken, placed, covers, cover, is_within, are_within, Part, Axis, wholes, parts_of, parts, IsNext, IsOutside, place_of, ranks_of, are_named, IsPart, IsChecked, shown_part, is_named, all_named, AreParts, AddsParts}
+use Rattle.fancy_index.proofs.Words.{is_ok, list_all, flat_map, and-true, and_assoc, and_parts, false≢true, map-append, list_all-append, list_all_at, list_all_more, Refusal, IndexOutOfRange, check, IndexItem, Integer, AxisPick, is_place, whole, has_step, pick_shown, ArePicks, AtAxis, AlongAxis, NewAxis, PointList, IndexPart, AxisPart, PointsPart, BetweenPart, IndexArray, is_index, array_axes_taken, covers, cover, is_within, are_within, Part, Axis, wholes, parts_of, parts, IsNext, IsOutside, place_of, ranks_of, are_named, IsPart, IsChecked, shown_part, is_named, all_named, AreParts, AddsParts}
 use Rattle.fancy_index.proofs.PointLaws.{integer-part}
 
 -- ---- parts of axes

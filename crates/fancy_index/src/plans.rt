@@ -5,10 +5,10 @@ ghost use Rattle.fancy_index.specs.Clauses.{OutOfMemory, TooLarge, item_from, it
 use crate::gather_scatter::{fill, push_all, scatter};
 use crate::item_sources::{PackedItems, Source};
 use crate::plan_rows::{PlanAxes, moved};
-use arrays::{Owned, gather};
+use arrays::{Owned, bytes_of, gather};
 use elem_descr::{Descr, MemoryOrder, Refusal};
 use raw_block::{BlockBuilder, RawBlock};
-use shape_strides::{Layout, MAX_BYTES, Shape, Walk};
+use shape_strides::{Layout, Shape, Walk};
 use std::alloc::{AllocError, Global};
 use std::marker::Model;
 
@@ -159,10 +159,8 @@ impl Plan {
             IfErr result (λ refusal.
             refusal ≡ (if nat_le bytes max_bytes then OutOfMemory else TooLarge)) }
     {
+        bytes_of(self.len(), descr)?;
         let item = descr.size();
-        if self.len() * item > MAX_BYTES {
-            return Err(Refusal::TooLarge);
-        }
         let descr = Descr::try_copy(alloc, descr)?;
         let items = self.gather(alloc, block, item)?;
         Ok(Owned::over(alloc, descr, &self.shape, MemoryOrder::C, items)?)

@@ -92,18 +92,6 @@ pub(crate) fn shifts(
     Ok(shifts)
 }
 
-/// Adds to each shift the distance of its offset from the start.
-fn grow(shifts: &mut [u32], start: u32, offsets: &[u32])
-    requires start { start ≤ max_bytes }
-    requires many { length offsets.now ≡ length shifts.old }
-    requires can { AllCanGrow start (λ k. get_or offsets.now k 0) shifts.old }
-    ensures { HaveAllGrown start (λ k. get_or offsets.now k 0) shifts.old shifts.new }
-{
-    for k in 0..shifts.len() {
-        shifts[k] = shifts[k] + offsets[k] - start;
-    }
-}
-
 /// Adds each point's displacement to `places.count` consecutive shifts, from index `at` on.
 #[inline(always)]
 fn grow_each(shifts: &mut [u32], at: usize, start: u32, offsets: &[u32], places: Run)
@@ -117,29 +105,14 @@ fn grow_each(shifts: &mut [u32], at: usize, start: u32, offsets: &[u32], places:
     }
 }
 
-/// Adds the distance of one offset from the start to `count` shifts, starting with one of them.
-fn grow_equally(shifts: &mut [u32], at: usize, start: u32, offset: u32, count: usize)
-    requires start { start ≤ max_bytes }
-    requires many { at + count ≤ length shifts.old }
-    requires can { (k : ℕ) → at ≤ k → k < at + count
-        → IsMoved start (get_or shifts.old k 0) offset }
-    ensures { HaveGrownFrom at start (λ _. offset) shifts.old shifts.new (at + count) }
-{
-    for k in 0..count {
-        shifts[at + k] = shifts[at + k] + offset - start;
-    }
-}
-
-/// The same, with separate loops for adjacent places and for a single place.
+/// The same, with separate loops for a single place and for adjacent ones.
 fn grow_run(shifts: &mut [u32], at: usize, start: u32, offsets: &[u32], places: Run)
     requires { CanGrowAlong at start offsets.now places shifts.old }
     ensures { let to = at + places.count in
         HaveGrownFrom at start (number_along offsets.now places at) shifts.old shifts.new to }
 {
     match places.step {
-        0 if places.count > 0 => {
-            grow_equally(shifts, at, start, offsets[places.offset], places.count);
-        }
+        0 => grow_each(shifts, at, start, offsets, Run { step: 0, ..places }),
         1 => grow_each(shifts, at, start, offsets, Run { step: 1, ..places }),
         _ => grow_each(shifts, at, start, offsets, places),
     }
@@ -213,12 +186,8 @@ fn add_points(
         OnOk result (HaveGrown origin.entry.start (count lengths) number old shifts.new.items) }
 {
     let start = origin.start as u32;
-    if own == origin.lengths {
-        if shifts.is_empty() {
-            *shifts = offsets;
-        } else {
-            grow(shifts.as_mut_slice(), start, offsets.as_slice());
-        }
+    if shifts.is_empty() && own == origin.lengths {
+        *shifts = offsets;
         return Ok(());
     }
     let places = stretched_places(alloc, own, origin.lengths)?;

@@ -1,5 +1,6 @@
 //! Short rows: a few items at each place of a run, as `a[:,j]` selects them if `j` is short. They
-//! are gathered, copied and filled in a single loop, with a loop of its own for each common width.
+//! are gathered, copied and filled in a single loop, with a loop of its own for each common width,
+//! and for two, three and four items.
 ghost use Rattle.std.specs.Prelude.{◌≡◌, ◌≤◌};
 ghost use Rattle.fancy_index.specs.Words.{BeginsWithin, count, max_items, offsets, run_offsets};
 
@@ -16,11 +17,26 @@ use shape_strides::Run;
 #[derive(Clone, Copy, Drop)]
 pub(crate) struct ShortRows<'a> {
     pub axes: &'a PlanAxes,
+    pub shifts: &'a [u32],
     pub places: Run,
+    pub ghost shifted: { shifts.now ≡ axes.now.shifts.items },
     pub ghost same: { run_offsets places ≡ offsets axes.now.outer },
     pub ghost begins: { BeginsWithin places },
     pub ghost few: { places.count ≤ max_items },
     pub ghost single: { count axes.now.inner.shape ≡ 1 },
+}
+
+/// Calls a method of short rows. The compiler knows how many shifts there are, if they are two,
+/// three or four, so that these stay in registers.
+macro_rules! on_shifts {
+    ($rows:expr, $work:ident($($arg:expr),*)) => {
+        match *$rows.shifts {
+            [a, b] => $rows.with(&[a, b]).$work($($arg),*),
+            [a, b, c] => $rows.with(&[a, b, c]).$work($($arg),*),
+            [a, b, c, d] => $rows.with(&[a, b, c, d]).$work($($arg),*),
+            _ => $rows.$work($($arg),*),
+        }
+    };
 }
 
 impl<'a> ShortRows<'a> {
@@ -40,7 +56,24 @@ impl<'a> ShortRows<'a> {
         }
         let _count = axes.outer.shape.items();
         let places = axes.outer.as_one_run()?;
-        Some(ShortRows { axes, places })
+        Some(ShortRows {
+            axes,
+            shifts,
+            places,
+        })
+    }
+
+    /// The same rows, given the same shifts.
+    #[inline(always)]
+    fn with(self, shifts: &'a [u32]) -> ShortRows<'a>
+        requires { shifts.now ≡ self.shifts.now }
+        ensures { short_offsets result ≡ short_offsets self.entry }
+    {
+        ShortRows {
+            axes: self.axes,
+            shifts,
+            places: self.places,
+        }
     }
 
     /// The items at one of the places.
@@ -50,7 +83,7 @@ impl<'a> ShortRows<'a> {
         ensures { first_offsets result ≡ row_at self.entry k }
     {
         Shifted {
-            shifts: self.axes.shifts.as_slice(),
+            shifts: self.shifts,
             inner: &self.axes.inner,
             place: self.places.offset_after(k),
         }
@@ -69,8 +102,9 @@ impl<'a> ShortRows<'a> {
         items
     }
 
-    /// Appends all items.
-    pub(crate) fn push(self, items: BlockBuilder, source: Source<'_>) -> BlockBuilder
+    /// The same, with a loop of its own for each common width.
+    #[inline(always)]
+    fn push_on_width(self, items: BlockBuilder, source: Source<'_>) -> BlockBuilder
         requires { CanPush (short_offsets self) source items }
         ensures { HavePushed (short_offsets self.entry) source.entry items result }
     {
@@ -81,6 +115,14 @@ impl<'a> ShortRows<'a> {
             8 => self.push_rows(items, Source { width: 8, ..source }),
             _ => self.push_rows(items, source),
         }
+    }
+
+    /// Appends all items.
+    pub(crate) fn push(self, items: BlockBuilder, source: Source<'_>) -> BlockBuilder
+        requires { CanPush (short_offsets self) source items }
+        ensures { HavePushed (short_offsets self.entry) source.entry items result }
+    {
+        on_shifts!(self, push_on_width(items, source))
     }
 
     /// Copies the items of a source to all places. Returns where the copied items end. If the
@@ -97,8 +139,9 @@ impl<'a> ShortRows<'a> {
         at
     }
 
-    /// Copies the items of a source to all places.
-    pub(crate) fn scatter(self, block: &mut RawBlock, source: PackedItems<'_>) -> usize
+    /// The same, with a loop of its own for each common width.
+    #[inline(always)]
+    fn scatter_on_width(self, block: &mut RawBlock, source: PackedItems<'_>) -> usize
         requires { CanPut (short_offsets self) source block.old }
         ensures { HavePut (short_offsets self.entry) source.entry block.old block.new result }
     {
@@ -109,6 +152,14 @@ impl<'a> ShortRows<'a> {
             8 => self.scatter_rows(block, PackedItems { width: 8, ..source }),
             _ => self.scatter_rows(block, source),
         }
+    }
+
+    /// Copies the items of a source to all places. Returns where the copied items end.
+    pub(crate) fn scatter(self, block: &mut RawBlock, source: PackedItems<'_>) -> usize
+        requires { CanPut (short_offsets self) source block.old }
+        ensures { HavePut (short_offsets self.entry) source.entry block.old block.new result }
+    {
+        on_shifts!(self, scatter_on_width(block, source))
     }
 
     /// Writes the item to all places. If the compiler knows its length, each is a single store.
@@ -122,8 +173,9 @@ impl<'a> ShortRows<'a> {
         }
     }
 
-    /// Writes the item to all places.
-    pub(crate) fn fill(self, block: &mut RawBlock, item: &[u8])
+    /// The same, with a loop of its own for each common width.
+    #[inline(always)]
+    fn fill_on_width(self, block: &mut RawBlock, item: &[u8])
         requires { FitAt (short_offsets self) (length item.now) block.old }
         ensures { HaveFilled (short_offsets self.entry) item.now block.old block.new }
     {
@@ -134,5 +186,13 @@ impl<'a> ShortRows<'a> {
             [a, b, c, d, e, f, g, h] => self.fill_rows(block, &[a, b, c, d, e, f, g, h]),
             _ => self.fill_rows(block, item),
         }
+    }
+
+    /// Writes the item to all places.
+    pub(crate) fn fill(self, block: &mut RawBlock, item: &[u8])
+        requires { FitAt (short_offsets self) (length item.now) block.old }
+        ensures { HaveFilled (short_offsets self.entry) item.now block.old block.new }
+    {
+        on_shifts!(self, fill_on_width(block, item))
     }
 }

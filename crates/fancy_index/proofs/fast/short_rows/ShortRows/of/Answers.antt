@@ -7,6 +7,7 @@ invariant_of-result c =
     let outer = c.args.axes.now.outer in
     let places = c.in_ok-places.places in
     record {
+      shifted = c.as_slice-shifts.ensures.value;
       same = c.in_ok-places.ensures.items;
       begins = c.in_ok-places.ensures.lie max_bytes 1 outer.within_limit;
       few = omega (arith, length-run_offsets places, ap length c.in_ok-places.ensures.items, length-offsets outer, c.items-count.ensures.value, c.items-count.ensures.limit);

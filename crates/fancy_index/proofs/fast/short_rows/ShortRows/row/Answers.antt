@@ -23,7 +23,7 @@ invariant_of-result-clause-starts c =
     let axes = rows.axes.now in
     let inner = offsets axes.inner in
     let here = there (goal.at.invariant_of-result-clause-starts c).After-offset_after ∙ ap (λ l. get_or l c.args.k 0) rows.same in
-    subst (λ shifts. AreStarts axes.inner.offset inner shifts c.offset_after.result) (sym c.as_slice.ensures.value)
+    subst (λ shifts. AreStarts axes.inner.offset inner shifts c.offset_after.result) (sym rows.shifted)
     (subst (AreStarts axes.inner.offset inner axes.shifts.items) (sym here) (axes.starts c.args.k 0 (omega (arith, c.requires, length-run_offsets rows.places, ap length rows.same))))
 
 pub returns : goal.returns
@@ -31,6 +31,6 @@ returns c =
     let rows = c.args.self in
     let axes = rows.axes.now in
     let place = c.offset_after.result in
-    ap (map (moved_offset axes.inner.offset place)) c.as_slice.ensures.value
+    ap (map (moved_offset axes.inner.offset place)) rows.shifted
     ∙ sym (shifted-single axes.inner axes.shifts.items place rows.single)
     ∙ ap (shifted_all axes.inner.offset axes.shifts.items (offsets axes.inner)) (there (goal.at.returns c).After-offset_after)
