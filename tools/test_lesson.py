@@ -5,7 +5,7 @@ import io
 import unittest
 
 from trials import browsers
-from trials.companion_trials import TOOL, InFolder, needs_program, numpy_or_none
+from trials.companion_trials import TOOL, InFolder, needs_program, numpy_or_none, share
 from trials.notebooks import Notebook
 from trials.terminals import AT_PROMPT, Terminal
 from test_page import PAGE, RAN, needs_chromium, needs_firefox, needs_page
@@ -82,7 +82,7 @@ class Lesson(InFolder):
 
 
 class OnThePage:
-    """The page in a browser, with one script for all questions."""
+    """The page in a browser, with one script for all questions. (A short run asks each in one of the two browsers.)"""
 
     OFFER = "(!take.hidden && document.querySelectorAll('#shown .l.no').length)"
     ACCEPTED = "(!document.querySelector('#shown .l.no') && Boolean(document.querySelector('#shown .l.here .r')))"
@@ -105,13 +105,13 @@ class OnThePage:
         page.wait(f"{RAN} && {self.ACCEPTED}")
 
     def test_the_lesson(self):
-        """The Tab key takes the lines that are offered, and so does the button."""
+        """The Tab key takes the lines that are offered, and the button does so in every other question."""
         takes = (lambda page: page.key("Tab"), lambda page: page.ask("take.querySelector('button').click()"))
         page = self.browser.open(PAGE.as_uri())
         self.addCleanup(page.close)
         page.wait("document.body?.dataset.ran")
         page.ask("script.focus(), script.select()")
-        for number, question in enumerate(LESSON):
+        for number, question in enumerate(list(LESSON)[self.FIRST::share(2, 1)]):
             lines, answer = asked(question)
             with self.subTest(question):
                 for line in lines:
@@ -137,13 +137,13 @@ class OnThePage:
 @needs_page
 @needs_chromium
 class InChromium(OnThePage, unittest.TestCase):
-    OPENS = browsers.Chromium
+    OPENS, FIRST = browsers.Chromium, 0
 
 
 @needs_page
 @needs_firefox
 class InFirefox(OnThePage, unittest.TestCase):
-    OPENS = browsers.Firefox
+    OPENS, FIRST = browsers.Firefox, share(1, 0)
 
 
 if __name__ == "__main__":
