@@ -4,7 +4,7 @@ import re
 import unittest
 from unittest import mock
 
-from trials.companion_trials import PATIENT, PROGRAM, TOOL, InFolder, environment, needs_program, numpy_or_none, share
+from trials.companion_trials import PATIENT, PROGRAM, InFolder, needs_program, numpy_or_none, share, tool_here
 from bench_tool import Session, hints, seen
 from bench_tool.seen import Places
 
