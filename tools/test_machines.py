@@ -147,7 +147,7 @@ class OnV3(Equal, InFolder):
 @unittest.skipUnless(made("bench-aarch64-linux").is_file(), "nothing is made for aarch64 here")
 @unittest.skipUnless(shutil.which("qemu-aarch64") and os.path.isdir(ARM_GLIBC), "there is no qemu-aarch64, or no glibc for it")
 class OnArm(Equal, InFolder):
-    every = 4
+    every = 6
 
     def setUp(self):
         super().setUp()

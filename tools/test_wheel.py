@@ -144,7 +144,7 @@ class Installed(unittest.TestCase):
         self.bin = self.folder / "venv/bin"
         env = {**ENVIRONMENT, "PATH": f"{self.bin}:/usr/bin:/bin", "PIP_NO_INDEX": "1", "PIP_DISABLE_PIP_VERSION_CHECK": "1"}
         subprocess.run(["sh", "-c", PASTED], cwd=self.folder, check=True, env=env, stdout=subprocess.DEVNULL)
-        for part in (self.commands, self.commands_with_files, self.by_the_program, self.example_of_the_readme, self.as_pipx_does, self.goes_again):
+        for part in (self.commands, self.commands_with_files, self.by_the_program, self.example_of_the_readme, self.as_pipx_does, self.goes_again, self.from_a_checkout):
             with self.subTest(part.__name__):
                 part()
 
@@ -208,7 +208,7 @@ class Installed(unittest.TestCase):
         subprocess.run([self.bin / "python", "-m", "pip", "uninstall", "-q", "-y", "bench-tool"], check=True, env=ENVIRONMENT, stderr=subprocess.DEVNULL)
         self.assertEqual([path for path in (self.folder / "venv").rglob("bench*") if "__pycache__" not in path.parts], [])
 
-    def test_from_a_checkout(self):
+    def from_a_checkout(self):
         """pip builds the wheel of the folder companion/ itself, and with -e leaves the modules there."""
         tree = self.folder / "tree"
         for path in ("companion", "docs", "dist"):
