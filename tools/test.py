@@ -42,7 +42,7 @@ def name_of(test):
 
 
 def batches(tests):
-    """The names of tests that run one after another: each test alone, but those of a class that opens a browser together."""
+    """The names of tests that run one after another: each test alone, but those of a class that opens something for all of them together."""
     found = {}
     for test in tests:
         found.setdefault(type(test) if hasattr(test, "OPENS") else name_of(test), []).append(name_of(test))
@@ -50,8 +50,8 @@ def batches(tests):
 
 
 # The tests that take longest begin first, so that none of them is left alone at the end.
-LONG = ("InFirefox", "test_page.InChromium", "test_wheel", "test_types", "test_random_scripts", "test_what_the_cases_say", "test_machines", "test_judge", "test_notebook",
-        "test_draw", "test_memory", "test_run", "test_library", "test_page")
+LONG = ("InFirefox", "InChromium", "test_types", "InJupyter", "Installed.test_wheel", "test_torch", "test_what_the_cases_say", "test_judge", "test_machines", "test_faults",
+        "test_random_scripts", "test_draw", "test_memory", "test_library", "test_trials", "test_page", "test_c.", "test_run", "test_wheel", "test_launcher")
 
 
 def by_length(names):

@@ -269,7 +269,7 @@ class Runner(InFolder):
         report = json.loads((self.folder / "r.json").read_text())["programs"][0]
         self.assertEqual(set(report["cases"].values()), {"pass", "not supported"}, text)
         self.assertGreater(list(report["cases"].values()).count("pass"), 10)
-        judged(self.adapter(two), "--only", "random", "--seconds", 2, status=0)
+        judged(self.adapter(two), "--only", "random", "--seconds", 1, status=0)
 
     def test_operations_together(self):
         """Findings of one feature that differ in the operation are shown once."""
@@ -286,7 +286,7 @@ class Runner(InFolder):
         self.assertIn("of them expected", judged(*words, status=0))
 
     def test_random(self):
-        text = judged(self.adapter("    def take(self, a, index): return lib.make(a.type, (1,), [0])\n"), "--only", "random", "--seconds", 4, status=1)
+        text = judged(self.adapter("    def take(self, a, index): return lib.make(a.type, (1,), [0])\n"), "--only", "random", "--seconds", 2, status=1)
         self.assertIn("random scripts, random/1.0.", text)
 
     def test_pipe(self):

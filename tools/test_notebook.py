@@ -25,8 +25,8 @@ EXAMPLE = json.loads((TOP / "examples/notebook.ipynb").read_text())
 PYTHON = "/usr/bin/python3"  # Debian's, which has its packages
 HAS_JUPYTER = works(PYTHON, "-c", "import nbconvert, ipykernel, jupyter_client, numpy")
 needs_jupyter = unittest.skipUnless(HAS_JUPYTER, "there is no nbconvert and no ipykernel")
-# Runs a notebook, and then cells behind it, in one kernel, and the notebook once more in a kernel that has no Node. It leaves what they show as
-# files of its folder, and prints what the cells put into the next one.
+# Runs cells in a kernel, and a notebook in two others, of which the second has no Node. It leaves what the notebook shows as files of its folder,
+# and prints what the cells put into the next one.
 RUNS = """
 import json, os, sys
 import nbformat
@@ -34,20 +34,20 @@ from jupyter_client.manager import start_new_kernel
 from nbconvert import HTMLExporter
 from nbconvert.preprocessors import ExecutePreprocessor
 
-def ran(name):
-    manager, client = start_new_kernel(kernel_name="python3")
+def run(name):
     notebook = nbformat.read(sys.argv[1], 4)
-    ExecutePreprocessor(timeout=600).preprocess(notebook, {}, km=manager)
+    ExecutePreprocessor(timeout=600, kernel_name="python3").preprocess(notebook, {})
     nbformat.write(notebook, f"{name}.ipynb")
     with open(f"{name}.html", "w", encoding="utf-8") as page:
         page.write(HTMLExporter().from_notebook_node(notebook)[0])
-    return manager, client
 
-manager, client = ran("with_node")
+manager, client = start_new_kernel(kernel_name="python3")
 replies = [client.execute_interactive(cell, output_hook=lambda _: None, timeout=600)["content"] for cell in json.loads(sys.argv[2])]
+client.stop_channels()
 manager.shutdown_kernel(now=True)
+run("with_node")
 os.environ["PATH"] = os.getcwd()
-ran("without_node")[0].shutdown_kernel(now=True)
+run("without_node")
 print(json.dumps([[each["text"], each["replace"]] for reply in replies for each in reply["payload"]]))
 """
 NEXT = ["%load_ext bench_tool", "%%bench\na = arange <i4 0 4 1\na[0] = 9\na", "%bench --take"]

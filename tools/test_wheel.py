@@ -48,6 +48,14 @@ def names_of_what_runs():
 
 
 class Bytes(unittest.TestCase):
+    OPENS = "a wheel"
+
+    @classmethod
+    def setUpClass(cls):
+        folder = tempfile.TemporaryDirectory()
+        cls.addClassCleanup(folder.cleanup)
+        cls.wheel = made(pathlib.Path(folder.name))
+
     def setUp(self):
         folder = tempfile.TemporaryDirectory()
         self.addCleanup(folder.cleanup)
@@ -55,7 +63,6 @@ class Bytes(unittest.TestCase):
 
     def test_the_same_bytes(self):
         """A copy of the tree with other times and modes gives the same wheel, named as pip wants it."""
-        first = made(self.folder)
         code = "import sys; sys.path.insert(0, 'companion'); import backend; open('wheel', 'wb').write(backend.wheel(backend.built('x86_64'), 'manylinux_2_34_x86_64')[1])"
         tree = self.folder / "tree"
         for path in ("companion", "docs", "dist", "vectors", "bench", "LICENSE-MIT", "LICENSE-APACHE", "out/library", "crates/bench_main/out/bench_main"):
@@ -65,12 +72,12 @@ class Bytes(unittest.TestCase):
                 (tree / path).parent.mkdir(parents=True, exist_ok=True)
                 shutil.copyfile(TOP / path, tree / path)
         subprocess.run([sys.executable, "-B", "-c", code], cwd=tree, check=True)
-        self.assertEqual((tree / "wheel").read_bytes(), first.read_bytes())
-        self.assertRegex(first.name, r"^bench_tool-[\d.]+-py3-none-manylinux_2_34_x86_64\.whl$")
+        self.assertEqual((tree / "wheel").read_bytes(), self.wheel.read_bytes())
+        self.assertRegex(self.wheel.name, r"^bench_tool-[\d.]+-py3-none-manylinux_2_34_x86_64\.whl$")
 
     def test_record(self):
         """RECORD has each file with its sum and its size, and itself without; .dist-info comes last; what runs may be run."""
-        with zipfile.ZipFile(made(self.folder)) as wheel:
+        with zipfile.ZipFile(self.wheel) as wheel:
             names = wheel.namelist()
             recorded = [line.split(",") for line in wheel.read(f"{backend.stem()}.dist-info/RECORD").decode().splitlines()]
             self.assertEqual(sorted(names), sorted(name for name, _, _ in recorded))
