@@ -254,13 +254,13 @@ class Pictures(unittest.TestCase):
 
     def test_bounds(self):
         """Time grows with what is drawn: many views of a buffer, records of many values, long replies and types."""
-        views = ["a = zeros <i4 (16,16)", *(f"v{k} = a[{k % 16}:,{k // 16}:]" for k in range(40)), *(f"set a[{k % 16},{k // 16}] = {k + 1}" for k in range(20))]
+        views = ["a = zeros <i4 (16,16)", *(f"v{k} = a[{k % 16}:,{k // 16}:]" for k in range(40)), *(f"set a[{k % 16},{k // 16}] = {k + 1}" for k in range(share(5, 20)))]
         leaf = "T{" + "".join(f"b:{'abcdefgh'[k % 8]}{k}:" for k in range(64)) + "}"
         big = "T{" + "".join(f"{leaf}:r{j}:" for j in range(32)) + "}"
         records = [f"a = zeros {big} (4)", f"b = zeros {big} (4)", "set a[0] = b[1]", "set b[0] = a[1]"]
         long = "T{" + "".join("T{" + "".join("b:" + f"f{j}{k}_".ljust(28, "x") + ":" for k in range(64)) + f"}}:g{j}:" for j in range(32)) + "}"
         begun = processor_seconds()
-        told = looks([(lines, 16) for lines in (views, records, [f"a = zeros {long} (2)", "names"], ["a = zeros |u1 (2000,2000)", *["print a"] * 3])])
+        told = looks([(lines, 16) for lines in (views, records, [f"a = zeros {long} (2)", "names"], ["a = zeros |u1 (2000,2000)", *["print a"] * share(1, 3)])])
         self.assertLess(processor_seconds() - begun, 40)
         self.assertIn("35 more names see it: ", told[0][-1]["tables"][0]["caption"])
         self.assertIn("the last 1792 values of each item are not drawn", told[1][0]["tables"][0]["caption"])

@@ -18,7 +18,7 @@ from bench_tool import cases, library
 
 PLACES = (TOP / "out/machines", TOP / "dist")
 ARM_GLIBC = "/usr/aarch64-linux-gnu"
-ARM_COMPILER = shutil.which("aarch64-linux-gnu-gcc")
+ARM_COMPILER = os.path.isfile(f"{ARM_GLIBC}/lib/crti.o") and shutil.which("aarch64-linux-gnu-gcc")  # (with what a program is linked with)
 EXAMPLE = TOP / "examples/c/script.c"
 
 

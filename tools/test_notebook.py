@@ -23,33 +23,33 @@ from test_draw import needs_node
 np = numpy_or_none()
 EXAMPLE = json.loads((TOP / "examples/notebook.ipynb").read_text())
 PYTHON = "/usr/bin/python3"  # Debian's, which has its packages
-HAS_JUPYTER = works(PYTHON, "-c", "import nbconvert, ipykernel, jupyter_client, numpy")
-needs_jupyter = unittest.skipUnless(HAS_JUPYTER, "there is no nbconvert and no ipykernel")
-# Runs cells in a kernel, and a notebook in two others, of which the second has no Node. It leaves what the notebook shows as files of its folder,
-# and prints what the cells put into the next one.
+HAS_JUPYTER = works(PYTHON, "-c", "import nbconvert, ipykernel, numpy, nbclient; nbclient.NotebookClient.on_cell_executed")
+needs_jupyter = unittest.skipUnless(HAS_JUPYTER, "there is no ipykernel and no nbconvert with nbclient 0.7 or later")
+# Runs a notebook in two kernels, of which the second has no Node, and there cells behind it. It leaves what is shown as files of its folder, and
+# prints what the cells put into the next one.
 RUNS = """
 import json, os, sys
 import nbformat
-from jupyter_client.manager import start_new_kernel
 from nbconvert import HTMLExporter
 from nbconvert.preprocessors import ExecutePreprocessor
 
-def run(name):
-    notebook = nbformat.read(sys.argv[1], 4)
-    ExecutePreprocessor(timeout=600, kernel_name="python3").preprocess(notebook, {})
-    nbformat.write(notebook, f"{name}.ipynb")
+def run(name, *cells):
+    notebook, put = nbformat.read(sys.argv[1], 4), []
+    for cell in cells:
+        notebook.cells.append(nbformat.from_dict({"cell_type": "code", "metadata": {}, "execution_count": None, "outputs": [], "source": cell}))
+    heard = lambda execute_reply, **_: put.extend(execute_reply["content"]["payload"])
+    ExecutePreprocessor(timeout=600, kernel_name="python3", on_cell_executed=heard).preprocess(notebook, {})
+    with open(f"{name}.ipynb", "w", encoding="utf-8") as file:
+        json.dump(notebook, file)
     with open(f"{name}.html", "w", encoding="utf-8") as page:
         page.write(HTMLExporter().from_notebook_node(notebook)[0])
+    return put
 
-manager, client = start_new_kernel(kernel_name="python3")
-replies = [client.execute_interactive(cell, output_hook=lambda _: None, timeout=600)["content"] for cell in json.loads(sys.argv[2])]
-client.stop_channels()
-manager.shutdown_kernel(now=True)
 run("with_node")
 os.environ["PATH"] = os.getcwd()
-run("without_node")
-print(json.dumps([[each["text"], each["replace"]] for reply in replies for each in reply["payload"]]))
+print(json.dumps([[each["text"], each["replace"]] for each in run("without_node", *json.loads(sys.argv[2]))]))
 """
+# The last two draw a picture each.
 NEXT = ["%load_ext bench_tool", "%%bench\na = arange <i4 0 4 1\na[0] = 9\na", "%bench --take"]
 WORDS = re.compile('<desc id="words">(.*?)</desc>')
 
@@ -261,13 +261,13 @@ class InJupyter(unittest.TestCase):
         """A browser shows the pictures; without Node it draws them itself, fetches nothing, and makes their frames as high as they are."""
         with browsers.Chromium() as browser:
             if shutil.which("node"):
-                self.seen(browser, "with_node", "img[src^=data]", "image => image.naturalWidth >= 720")
-            self.seen(browser, "without_node", "iframe[srcdoc]", "frame => frame.contentDocument.querySelector('svg desc') && parseInt(frame.style.height) > 100")
+                self.seen(browser, "with_node", 4, "img[src^=data]", "image => image.naturalWidth >= 720")
+            self.seen(browser, "without_node", 4 + 2, "iframe[srcdoc]", "frame => frame.contentDocument.querySelector('svg desc') && parseInt(frame.style.height) > 100")
 
-    def seen(self, browser, name, kind, ready):
-        """The four pictures are ready, and no error is reported but for the scripts of nbconvert's page that are not there."""
+    def seen(self, browser, name, count, kind, ready):
+        """The pictures, so many, are ready, and no error is reported but for the scripts of nbconvert's page that are not there."""
         tab = browser.open((self.folder / f"{name}.html").as_uri())
-        tab.wait(f"document.readyState == 'complete' && (found => found.length == 4 && found.every({ready}))([...document.querySelectorAll('{kind}')])")
+        tab.wait(f"document.readyState == 'complete' && (found => found.length == {count} && found.every({ready}))([...document.querySelectorAll('{kind}')])")
         self.assertEqual([fault for fault in browser.faults if "ERR_FILE_NOT_FOUND" not in fault], [])
 
 

@@ -4,7 +4,7 @@ import errno
 import os
 import signal
 import sys
-from typing import Any, Callable, Optional, Sequence
+from typing import Any, Callable, NoReturn, Optional, Sequence
 
 from . import __version__
 from .session import BenchError
@@ -27,12 +27,19 @@ def count(text: str) -> int:
     return int(text)
 
 
+class Parser(argparse.ArgumentParser):
+    def error(self, message: str) -> NoReturn:
+        """Says what is wrong with the arguments, if possible: the argparse of some versions of Python fails where standard error is full."""
+        say(f"{self.format_usage()}{self.prog}: error: {message}")
+        sys.exit(2)
+
+
 def parser() -> argparse.ArgumentParser:
     common, script = (argparse.ArgumentParser(add_help=False) for _ in range(2))
     common.add_argument("--undo", type=depth, default=16, metavar="N", help="how many changes undo can take back, 0 to 64 (default: 16)")
     common.add_argument("--dir", default=".", help="the folder for load and save (default: the current folder)")
     script.add_argument("script", metavar="SCRIPT", help="the script; - is standard input")
-    made = argparse.ArgumentParser(prog="bench-tool", description="The companion of bench, a workbench for strided arrays.")
+    made = Parser(prog="bench-tool", description="The companion of bench, a workbench for strided arrays.")
     made.add_argument("--version", action="version", version=f"bench-tool {__version__}")
     commands = made.add_subparsers(metavar="COMMAND")
 
@@ -136,7 +143,7 @@ def called(words: argparse.Namespace, arguments: Optional[Sequence[str]]) -> int
         parser().parse_args(arguments, words)
         if words.call:
             return int(words.call(words))
-        parser().print_help(sys.stderr)
+        say(parser().format_help().removesuffix("\n"))
         return 2
     finally:
         sys.stdout.flush()
