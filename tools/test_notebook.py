@@ -39,8 +39,7 @@ def run(name, *cells):
         notebook.cells.append(nbformat.from_dict({"cell_type": "code", "metadata": {}, "execution_count": None, "outputs": [], "source": cell}))
     heard = lambda execute_reply, **_: put.extend(execute_reply["content"]["payload"])
     ExecutePreprocessor(timeout=600, kernel_name="python3", on_cell_executed=heard).preprocess(notebook, {})
-    with open(f"{name}.ipynb", "w", encoding="utf-8") as file:
-        json.dump(notebook, file)
+    nbformat.write(notebook, f"{name}.ipynb")
     with open(f"{name}.html", "w", encoding="utf-8") as page:
         page.write(HTMLExporter().from_notebook_node(notebook)[0])
     return put
