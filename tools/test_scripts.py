@@ -211,7 +211,7 @@ class InPytest(InFolder):
     def test_the_example_of_the_document(self):
         """The test that COMPANION shows finds the mistake of the library beside it, with few lines; with the mistake taken out it passes."""
         library, test = self.examples("division")
-        pathlib.Path(self.folder, "test_division.py").write_text(test.replace("refused=False", f"refused=False, size={share(12, 30)}"))
+        pathlib.Path(self.folder, "test_division.py").write_text(test)
         pathlib.Path(self.folder, "conftest.py").write_text(
             f"import hypothesis\nhypothesis.settings.register_profile('here', max_examples={share(40, 100)}, derandomize={share(True, False)})\n"
             "hypothesis.settings.load_profile('here')\n")
