@@ -32,11 +32,12 @@ COPIES = """addEventListener('copy', event => { event.clipboardData.setData('tex
 document.execCommand('copy')"""
 
 
-# Looks in a page until an expression is true, for some seconds.
+# Looks in a page until an expression is true, for some seconds, and ever less often.
 LOOKS = """(async () => {
-    for (const end = performance.now() + 5000; performance.now() < end; await new Promise(done => setTimeout(done, 10))) {
+    for (let pause = 10, end = performance.now() + 5000; performance.now() < end; pause = Math.min(1.3 * pause, 200)) {
         const found = %s;
         if (found) return found;
+        await new Promise(done => setTimeout(done, pause));
     }
 })()"""
 
