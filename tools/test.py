@@ -50,8 +50,9 @@ def batches(tests):
 
 
 # The tests that take longest begin first, so that none of them is left alone at the end.
-LONG = ("InFirefox", "InChromium", "test_types", "InJupyter", "Installed.test_wheel", "test_torch", "test_what_the_cases_say", "test_judge", "test_machines", "test_faults",
-        "test_random_scripts", "test_draw", "test_memory", "test_library", "test_trials", "test_page", "test_c.", "test_run", "test_wheel", "test_launcher")
+LONG = ("InFirefox", "InChromium", "test_types", "InJupyter", "Installed.test_wheel", "test_the_example", "test_torch", "test_what_the_cases_say", "test_judge.Planted",
+        "test_machines", "test_faults", "test_random_scripts", "test_draw", "test_memory", "test_judge", "test_library", "test_trials", "test_page", "test_scripts",
+        "test_translations", "test_saves", "test_c.", "test_run", "test_wheel", "test_launcher")
 
 
 def by_length(names):
