@@ -34,6 +34,7 @@ SETTINGS = ("BASH_ENV", "BENCH_HISTORY", "CDPATH", "COLUMNS", "ENV", "GLIBC_TUNA
 
 for setting in SETTINGS:
     os.environ.pop(setting, None)
+os.environ["BENCH_HINT_SECONDS"] = "30"  # for hints on a loaded machine
 os.umask(0o022)
 
 
@@ -43,9 +44,9 @@ def share(few: T, all_: T) -> T:
 
 
 def environment(**more: str) -> dict[str, str]:
-    """The environment of a companion that is run, with time for its hints on a loaded machine and Python's own buffers."""
+    """The environment of a companion that is run, with Python's own buffers."""
     own = {name: text for name, text in os.environ.items() if name != "PYTHONUNBUFFERED"}
-    return {**own, "BENCH": PROGRAM, "BENCH_HINT_SECONDS": "30", **more}
+    return {**own, "BENCH": PROGRAM, **more}
 
 
 @contextlib.contextmanager
