@@ -1,4 +1,4 @@
-# make test           some minutes, without the toolchain: examples, rows of commands with their replies, launcher, companion, pictures
+# make test           two minutes of four cores, without the toolchain: examples, rows of commands with their replies, launcher, companion, pictures
 # make                proves the crates and builds the program and the library for C of them, with the toolchain: what changed, and what
 #                     stands on it
 # make install        puts the program in its places below PREFIX, with its launcher, pages, completions, companion and library for C:

@@ -1,14 +1,13 @@
 #!/usr/bin/env python3
 """Runs the tests of everything but the proofs: tools/test.py [WORD ..] runs those whose names have one of the words, or all.
 
-It takes some minutes, and needs no toolchain. On a terminal a line says how far it is. Tests that need NumPy run with the first
-`python3` of PATH that has it; the output says which. Skipped tests are listed with the reason. The last line is `N passed, M failed,
+It takes two minutes, and needs no toolchain. On a terminal a line says how far it is. The tests run with the first `python3` of PATH
+that has NumPy, if one has it; the output says which. Skipped tests are listed with the reason. The last line is `N passed, M failed,
 K skipped`. With --gate, `rt ci` runs first and proves everything from scratch, then dist/ is compared with the
 program that it built, and no test may be skipped because there is no program."""
 import concurrent.futures
-import functools
+import importlib.util
 import io
-import json
 import os
 import pathlib
 import re
@@ -43,7 +42,7 @@ def name_of(test):
 
 
 def batches(tests):
-    """The names of tests that run one after another: each test alone, but those of a class that opens a browser together."""
+    """The names of tests that run one after another: each test alone, but those of a class that opens something for all of them together."""
     found = {}
     for test in tests:
         found.setdefault(type(test) if hasattr(test, "OPENS") else name_of(test), []).append(name_of(test))
@@ -51,8 +50,9 @@ def batches(tests):
 
 
 # The tests that take longest begin first, so that none of them is left alone at the end.
-LONG = ("InFirefox", "test_page.InChromium", "test_wheel", "test_types", "test_random_scripts", "test_what_the_cases_say", "test_machines", "test_judge", "test_notebook",
-        "test_draw", "test_memory", "test_run", "test_library", "test_page")
+LONG = ("InFirefox", "InChromium", "test_types", "InJupyter", "Installed.test_wheel", "test_the_example", "test_torch", "test_what_the_cases_say", "test_judge.Planted",
+        "test_machines", "test_faults", "test_random_scripts", "test_draw", "test_memory", "test_judge", "test_library", "test_trials", "test_page", "test_scripts",
+        "test_translations", "test_saves", "test_c.", "test_run", "test_wheel", "test_launcher")
 
 
 def by_length(names):
@@ -79,12 +79,7 @@ def results(found):
 
 
 def run_batch(names):
-    """Runs tests, with the other Python those that need NumPy. Of each its name, what it says about failures, and why it was skipped."""
-    return [run_there(found[0]) if any("NumPy" in why for why in found[2]) and python_with_numpy() else found for found in run_here(names)]
-
-
-def run_here(names):
-    """`run_batch` in this Python."""
+    """Runs tests. Of each its name, what it says about failures, and why it was skipped."""
     result = unittest.TextTestRunner(io.StringIO(), verbosity=0).run(unittest.TestSuite(map(unittest.defaultTestLoader.loadTestsFromName, names)))
     return [(name, "\n".join(told(name, result.failures + result.errors)), told(name, result.skipped)) for name in names]
 
@@ -94,26 +89,21 @@ def told(name, pairs):
     return [text for test, text in pairs if name_of(test) in (name, "setUpClass", "tearDownClass", "setUpModule")]
 
 
-def run_there(name):
-    """`run_here` of one test in the Python that has NumPy."""
-    ran = subprocess.run([python_with_numpy(), __file__, "--one", name], capture_output=True, text=True, errors="replace")
-    return json.loads(ran.stdout.splitlines()[-1]) if ran.returncode == 0 else (name, f"{ran.stdout}{ran.stderr}status {ran.returncode}", [])
-
-
-@functools.lru_cache(maxsize=None)
-def python_with_numpy():
-    """Another Python of PATH that has NumPy and is new enough, or nothing."""
-    found = (os.path.join(folder, "python3") for folder in os.get_exec_path())
-    return next((path for path in found if os.access(path, os.X_OK) and subprocess.run([path, "-c", HAS_NUMPY], capture_output=True).returncode == 0), "")
+def with_numpy():
+    """Starts this again with the first Python of PATH that has NumPy and is new enough, if this one has none."""
+    found = [] if importlib.util.find_spec("numpy") else [os.path.join(folder, "python3") for folder in os.get_exec_path()]
+    for path in found:
+        if os.access(path, os.X_OK) and subprocess.run([path, "-c", HAS_NUMPY], capture_output=True).returncode == 0:
+            os.execv(path, [path, *sys.argv])
 
 
 def tell_numpy():
-    """Says which Python has NumPy."""
+    """Says which Python runs the tests."""
     try:
         import numpy
         print(f"tests that need NumPy: NumPy {numpy.__version__}, {sys.executable}")
     except ImportError:
-        print(f"tests that need NumPy: {python_with_numpy() or 'skipped, no python3 of PATH has it'}")
+        print("tests that need NumPy: skipped, no python3 of PATH has it")
 
 
 def run_tests(words, counts, is_gate):
@@ -160,6 +150,7 @@ def main(words):
     for name in ("MAKEFLAGS", "MFLAGS", "MAKELEVEL", "PYTHONDONTWRITEBYTECODE"):
         os.environ.pop(name, None)
     os.environ["PYTHONPYCACHEPREFIX"] = str(TOP / "out/pycache")  # (most tests start the companion many times)
+    os.environ["PATH"] = f"{pathlib.Path(sys.executable).parent}:{os.environ['PATH']}"  # (with this Python, and by no script that looks for one)
     counts, is_gate = Counts(), "--gate" in words
     if is_gate:
         os.environ["BENCH_GATE"] = "yes"
@@ -170,7 +161,5 @@ def main(words):
 
 
 if __name__ == "__main__":
-    if sys.argv[1:2] == ["--one"]:
-        print(json.dumps(run_here([sys.argv[2]])[0]))
-        sys.exit(0)
+    with_numpy()
     sys.exit(main(sys.argv[1:]))

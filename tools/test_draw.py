@@ -1,5 +1,5 @@
 """`bench-tool draw`: what the modules of the page draw, in Node: buffers against `shares`, cells and values against `print`, moves against a
-machine of ids, pages of all kinds, pictures of the docs. tools/test_page.py tries the page in a browser."""
+machine of ids, pages of all kinds, pictures of the docs. tools/test_browsers.py tries the page."""
 import argparse
 import itertools
 import json
@@ -139,9 +139,9 @@ def items_of_name(row, values):
 class Pictures(unittest.TestCase):
     def test_buffers_and_values(self):
         """Buffers are as `shares` says, and what is drawn is what `print` says: in random scripts, and in some of vectors/."""
-        made = [scripts.random_script(PROGRAM, random.Random(-seed - 1), -seed - 1, depths=(0, 1, 3, 16, 56)) for seed in range(share(6, 400))]
+        made = [scripts.random_script(PROGRAM, random.Random(-seed - 1), -seed - 1, depths=(0, 1, 3, 16, 56)) for seed in range(share(4, 400))]
         written = [(lines, 0) for question, lines in vectors(1) if not question.files]
-        chosen = [(script.lines, script.depth or 0) for script in made] + random.Random(7).sample(written, share(30, len(written)))
+        chosen = [(script.lines, script.depth or 0) for script in made] + random.Random(7).sample(written, share(20, len(written)))
         for (lines, undo), told in zip(chosen, looks(chosen)):
             with tempfile.TemporaryDirectory() as folder, Session(PROGRAM, undo, folder) as judge:
                 for line, moment in zip(lines, told):
@@ -185,7 +185,7 @@ class Pictures(unittest.TestCase):
     def test_moves(self):
         """An item is said to have moved from where it did, and to be written where it was: beside a machine of ids, for every kind of `set`."""
         rng = random.Random(5)
-        chosen = [random_move(rng) for _ in range(share(1000, 20_000))]
+        chosen = [random_move(rng) for _ in range(share(400, 20_000))]
         for (lines, ids, written, line), [last] in zip(chosen, looks([([*lines, line], 0) for lines, _, _, line in chosen], -1)):
             if last["reply"].startswith("no "):
                 continue
@@ -254,13 +254,13 @@ class Pictures(unittest.TestCase):
 
     def test_bounds(self):
         """Time grows with what is drawn: many views of a buffer, records of many values, long replies and types."""
-        views = ["a = zeros <i4 (16,16)", *(f"v{k} = a[{k % 16}:,{k // 16}:]" for k in range(40)), *(f"set a[{k % 16},{k // 16}] = {k + 1}" for k in range(20))]
+        views = ["a = zeros <i4 (16,16)", *(f"v{k} = a[{k % 16}:,{k // 16}:]" for k in range(40)), *(f"set a[{k % 16},{k // 16}] = {k + 1}" for k in range(share(5, 20)))]
         leaf = "T{" + "".join(f"b:{'abcdefgh'[k % 8]}{k}:" for k in range(64)) + "}"
         big = "T{" + "".join(f"{leaf}:r{j}:" for j in range(32)) + "}"
         records = [f"a = zeros {big} (4)", f"b = zeros {big} (4)", "set a[0] = b[1]", "set b[0] = a[1]"]
         long = "T{" + "".join("T{" + "".join("b:" + f"f{j}{k}_".ljust(28, "x") + ":" for k in range(64)) + f"}}:g{j}:" for j in range(32)) + "}"
         begun = processor_seconds()
-        told = looks([(lines, 16) for lines in (views, records, [f"a = zeros {long} (2)", "names"], ["a = zeros |u1 (2000,2000)", *["print a"] * 3])])
+        told = looks([(lines, 16) for lines in (views, records, [f"a = zeros {long} (2)", "names"], ["a = zeros |u1 (2000,2000)", *["print a"] * share(1, 3)])])
         self.assertLess(processor_seconds() - begun, 40)
         self.assertIn("35 more names see it: ", told[0][-1]["tables"][0]["caption"])
         self.assertIn("the last 1792 values of each item are not drawn", told[1][0]["tables"][0]["caption"])

@@ -1,4 +1,4 @@
-"""The companion with odd lines, headers, settings and keys, for 20 seconds; the trial of a night is `tools/try companion --seconds 3600`."""
+"""The companion with odd lines, headers, settings and keys, for eight seconds; the trial of a night is `tools/try companion --seconds 3600`."""
 import argparse
 import random
 import unittest
@@ -12,7 +12,7 @@ from trials.runs import Part
 @needs_program
 class Companion(InFolder):
     def test_nothing_is_left_to_a_person(self):
-        given = argparse.Namespace(program=Path(PROGRAM), seed=share(1, random.randrange(1 << 30)), seconds=share(20, 600))
+        given = argparse.Namespace(program=Path(PROGRAM), seed=share(1, random.randrange(1 << 30)), seconds=share(8, 600))
         part = companion_faults.all_trials(given, self.folder)
         self.assertEqual(part.faults, [], f"seed {given.seed}")
         for what, least in (("refused lines", 1), ("headers", 1), ("commands", 1), ("shells", 1)):

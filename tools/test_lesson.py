@@ -4,11 +4,10 @@ import contextlib
 import io
 import unittest
 
-from trials import browsers
-from trials.companion_trials import TOOL, InFolder, needs_program, numpy_or_none
+from trials.companion_trials import TOOL, InFolder, needs_program, numpy_or_none, share
 from trials.notebooks import Notebook
 from trials.terminals import AT_PROMPT, Terminal
-from test_page import PAGE, RAN, needs_chromium, needs_firefox, needs_page
+from test_page import RAN
 
 np = numpy_or_none()
 # Of each question the lines, of which the last one asks, and what NumPy 1.24 prints.
@@ -82,18 +81,10 @@ class Lesson(InFolder):
 
 
 class OnThePage:
-    """The page in a browser, with one script for all questions."""
+    """The page in a browser, with one script for all questions: tools/test_browsers.py has the browsers. (A short run asks each in one of them.)"""
 
     OFFER = "(!take.hidden && document.querySelectorAll('#shown .l.no').length)"
     ACCEPTED = "(!document.querySelector('#shown .l.no') && Boolean(document.querySelector('#shown .l.here .r')))"
-
-    @classmethod
-    def setUpClass(cls):
-        try:
-            cls.browser = cls.OPENS()
-        except (OSError, RuntimeError) as fault:
-            raise unittest.SkipTest(f"the browser that is installed does not run here: {fault}")
-        cls.addClassCleanup(cls.browser.close)
 
     def asked(self, page, line, take):
         """Types a line behind the script, and takes what is offered for it; nothing of the script stays refused."""
@@ -105,13 +96,11 @@ class OnThePage:
         page.wait(f"{RAN} && {self.ACCEPTED}")
 
     def test_the_lesson(self):
-        """The Tab key takes the lines that are offered, and so does the button."""
+        """The Tab key takes the lines that are offered, and the button does so in every other question."""
         takes = (lambda page: page.key("Tab"), lambda page: page.ask("take.querySelector('button').click()"))
-        page = self.browser.open(PAGE.as_uri())
-        self.addCleanup(page.close)
-        page.wait("document.body?.dataset.ran")
+        page = self.page()
         page.ask("script.focus(), script.select()")
-        for number, question in enumerate(LESSON):
+        for number, question in enumerate(list(LESSON)[self.FIRST::share(2, 1)]):
             lines, answer = asked(question)
             with self.subTest(question):
                 for line in lines:
@@ -124,26 +113,12 @@ class OnThePage:
 
     def test_without_waiting(self):
         """Tab that is pressed before the line has its answer takes what is offered as soon as that is there."""
-        page = self.browser.open(PAGE.as_uri())
-        self.addCleanup(page.close)
-        page.wait("document.body?.dataset.ran")
+        page = self.page()
         page.ask("script.focus(), script.select()")
         page.ask("""document.execCommand('insertText', false, 'a = np.arange(6)'),
             script.dispatchEvent(new KeyboardEvent('keydown', { key: 'Tab', bubbles: true, cancelable: true }))""")
         page.wait("script.value === 'a = arange <i8 0 6 1'")
         self.assertEqual(page.ask("document.activeElement.id"), "script")
-
-
-@needs_page
-@needs_chromium
-class InChromium(OnThePage, unittest.TestCase):
-    OPENS = browsers.Chromium
-
-
-@needs_page
-@needs_firefox
-class InFirefox(OnThePage, unittest.TestCase):
-    OPENS = browsers.Firefox
 
 
 if __name__ == "__main__":

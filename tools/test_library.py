@@ -154,7 +154,7 @@ class Alike(InFolder):
     def scripts(self):
         held = []
 
-        @hypothesis.settings(max_examples=share(300, 20_000), deadline=None, database=None, derandomize=True,
+        @hypothesis.settings(max_examples=share(150, 20_000), deadline=None, database=None, derandomize=True,
                              suppress_health_check=list(hypothesis.HealthCheck), phases=[hypothesis.Phase.generate])
         @hypothesis.given(scripts())
         def collect(steps):

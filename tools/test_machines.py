@@ -18,7 +18,7 @@ from bench_tool import cases, library
 
 PLACES = (TOP / "out/machines", TOP / "dist")
 ARM_GLIBC = "/usr/aarch64-linux-gnu"
-ARM_COMPILER = shutil.which("aarch64-linux-gnu-gcc")
+ARM_COMPILER = os.path.isfile(f"{ARM_GLIBC}/lib/crti.o") and shutil.which("aarch64-linux-gnu-gcc")  # (with what a program is linked with)
 EXAMPLE = TOP / "examples/c/script.c"
 
 
@@ -147,7 +147,7 @@ class OnV3(Equal, InFolder):
 @unittest.skipUnless(made("bench-aarch64-linux").is_file(), "nothing is made for aarch64 here")
 @unittest.skipUnless(shutil.which("qemu-aarch64") and os.path.isdir(ARM_GLIBC), "there is no qemu-aarch64, or no glibc for it")
 class OnArm(Equal, InFolder):
-    every = 4
+    every = 6
 
     def setUp(self):
         super().setUp()

@@ -5,8 +5,11 @@ import html
 import io
 import json
 import os
+import pathlib
 import re
+import shutil
 import subprocess
+import tempfile
 import unittest
 from unittest import mock
 
@@ -20,18 +23,33 @@ from test_draw import needs_node
 np = numpy_or_none()
 EXAMPLE = json.loads((TOP / "examples/notebook.ipynb").read_text())
 PYTHON = "/usr/bin/python3"  # Debian's, which has its packages
-HAS_JUPYTER = works(PYTHON, "-c", "import nbconvert, ipykernel, jupyter_client, numpy")
-needs_jupyter = unittest.skipUnless(HAS_JUPYTER, "there is no nbconvert and no ipykernel")
-# Runs cells in a kernel, and prints what it puts into the next one.
-ASKS = """
-import json, sys
-from jupyter_client.manager import start_new_kernel
-manager, client = start_new_kernel(kernel_name="python3")
-replies = [client.execute_interactive(cell, output_hook=lambda _: None, timeout=600)["content"] for cell in json.loads(sys.argv[1])]
-client.stop_channels()
-manager.shutdown_kernel(now=True)
-print(json.dumps([[each["text"], each["replace"]] for reply in replies for each in reply["payload"]]))
+HAS_JUPYTER = works(PYTHON, "-c", "import nbconvert, ipykernel, numpy, nbclient; nbclient.NotebookClient.on_cell_executed")
+needs_jupyter = unittest.skipUnless(HAS_JUPYTER, "there is no ipykernel and no nbconvert with nbclient 0.7 or later")
+# Runs a notebook in two kernels, of which the second has no Node, and there cells behind it. It leaves what is shown as files of its folder, and
+# prints what the cells put into the next one.
+RUNS = """
+import json, os, sys
+import nbformat
+from nbconvert import HTMLExporter
+from nbconvert.preprocessors import ExecutePreprocessor
+
+def run(name, *cells):
+    notebook, put = nbformat.read(sys.argv[1], 4), []
+    for cell in cells:
+        notebook.cells.append(nbformat.from_dict({"cell_type": "code", "metadata": {}, "execution_count": None, "outputs": [], "source": cell}))
+    heard = lambda execute_reply, **_: put.extend(execute_reply["content"]["payload"])
+    ExecutePreprocessor(timeout=600, kernel_name="python3", on_cell_executed=heard).preprocess(notebook, {})
+    nbformat.write(notebook, f"{name}.ipynb")
+    with open(f"{name}.html", "w", encoding="utf-8") as page:
+        page.write(HTMLExporter().from_notebook_node(notebook)[0])
+    return put
+
+run("with_node")
+os.environ["PATH"] = os.getcwd()
+print(json.dumps([[each["text"], each["replace"]] for each in run("without_node", *json.loads(sys.argv[2]))]))
 """
+# The last two draw a picture each.
+NEXT = ["%load_ext bench_tool", "%%bench\na = arange <i4 0 4 1\na[0] = 9\na", "%bench --take"]
 WORDS = re.compile('<desc id="words">(.*?)</desc>')
 
 
@@ -207,46 +225,49 @@ class Example(InFolder):
 
 @needs_program
 @needs_jupyter
-class InJupyter(InFolder):
-    def convert(self, form, *words, **more):
-        """What nbconvert makes of a notebook."""
-        env = {**os.environ, "PYTHONPATH": str(COMPANION), "HOME": str(self.folder), **more}
-        made = [PYTHON, "-m", "nbconvert", "--to", form, "--output-dir", self.folder, "--output", "made", *words]
-        done = subprocess.run(made, capture_output=True, text=True, env=env, cwd=self.folder, timeout=PATIENT)
-        self.assertEqual(done.returncode, 0, done.stderr)
-        return self.folder / f"made.{'ipynb' if form == 'notebook' else form}"
+class InJupyter(unittest.TestCase):
+    """The example in Jupyter's own kernel, run once for all of these."""
 
-    def seen(self, path, kind, ready):
-        """In a browser the four pictures are ready, and no error is reported but for the scripts of nbconvert's page that are not there."""
-        with browsers.Chromium() as browser:
-            tab = browser.open(path.as_uri())
-            tab.wait(f"document.readyState == 'complete' && (found => found.length == 4 && found.every({ready}))([...document.querySelectorAll('{kind}')])")
-            self.assertEqual([fault for fault in browser.faults if "ERR_FILE_NOT_FOUND" not in fault], [])
+    OPENS = "kernels"
+
+    @classmethod
+    def setUpClass(cls):
+        folder = tempfile.TemporaryDirectory()
+        cls.addClassCleanup(folder.cleanup)
+        cls.folder = pathlib.Path(folder.name)
+        env = {**os.environ, "PYTHONPATH": str(COMPANION), "HOME": folder.name}
+        words = [PYTHON, "-c", RUNS, TOP / "examples/notebook.ipynb", json.dumps(NEXT)]
+        cls.ran = subprocess.run(words, capture_output=True, text=True, env=env, cwd=folder.name, timeout=PATIENT)
+
+    def setUp(self):
+        self.assertEqual(self.ran.returncode, 0, self.ran.stderr)
 
     def test_the_next_cell(self):
         """The kernel hands over the cell with the offered lines."""
-        env = {**os.environ, "PYTHONPATH": str(COMPANION), "HOME": str(self.folder)}
-        cells = ["%load_ext bench_tool", "%%bench\na = arange <i4 0 4 1\na[0] = 9\na", "%bench --take"]
-        done = subprocess.run([PYTHON, "-c", ASKS, json.dumps(cells)], capture_output=True, text=True, env=env, cwd=self.folder, timeout=PATIENT)
-        self.assertEqual(json.loads(done.stdout), [["%%bench\nset a[0] = 9\na", False]])
+        self.assertEqual(json.loads(self.ran.stdout), [["%%bench\nset a[0] = 9\na", False]])
 
     @needs_node
     def test_it_runs(self):
-        """Its outputs are those that stand there, and a browser shows the pictures."""
-        path = self.convert("notebook", "--execute", TOP / "examples/notebook.ipynb")
-        made = json.loads(path.read_text())
+        """Its outputs are those that stand there."""
+        made = json.loads((self.folder / "with_node.ipynb").read_text())
         for cell, kept in zip(made["cells"], EXAMPLE["cells"]):
             if cell["cell_type"] == "code":
                 self.assertEqual(printed(cell), printed(kept), source(cell))
         self.assertEqual(pictures(made["cells"]), pictures(EXAMPLE["cells"]))
-        if browsers.CHROMIUM:
-            self.seen(self.convert("html", path), "img[src^=data]", "image => image.naturalWidth >= 720")
 
     @unittest.skipUnless(browsers.CHROMIUM, "chromium is not installed")
-    def test_it_runs_without_node(self):
-        """The browser draws the pictures, which fetch nothing, and makes their frames as high as they are."""
-        path = self.convert("html", "--execute", TOP / "examples/notebook.ipynb", PATH=str(self.folder))
-        self.seen(path, "iframe[srcdoc]", "frame => frame.contentDocument.querySelector('svg desc') && parseInt(frame.style.height) > 100")
+    def test_in_a_browser(self):
+        """A browser shows the pictures; without Node it draws them itself, fetches nothing, and makes their frames as high as they are."""
+        with browsers.Chromium() as browser:
+            if shutil.which("node"):
+                self.seen(browser, "with_node", 4, "img[src^=data]", "image => image.naturalWidth >= 720")
+            self.seen(browser, "without_node", 4 + 2, "iframe[srcdoc]", "frame => frame.contentDocument.querySelector('svg desc') && parseInt(frame.style.height) > 100")
+
+    def seen(self, browser, name, count, kind, ready):
+        """The pictures, so many, are ready, and no error is reported but for the scripts of nbconvert's page that are not there."""
+        tab = browser.open((self.folder / f"{name}.html").as_uri())
+        tab.wait(f"document.readyState == 'complete' && (found => found.length == {count} && found.every({ready}))([...document.querySelectorAll('{kind}')])")
+        self.assertEqual([fault for fault in browser.faults if "ERR_FILE_NOT_FOUND" not in fault], [])
 
 
 if __name__ == "__main__":

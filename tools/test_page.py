@@ -1,4 +1,4 @@
-"""The page and the program in WebAssembly: the same replies and files as the program's, in Node; and the page in a headless chromium and Firefox.
+"""The page and the program in WebAssembly: the same replies and files as the program's, in Node; and what tools/test_browsers.py tries of the page.
 BENCH_TESTS=all tries 10,000 random scripts, and 4 GB of memory."""
 import argparse
 import base64
@@ -16,7 +16,7 @@ import unittest
 import zlib
 
 from trials.companion_trials import PATIENT, PROGRAM, TOP, needs_program, share
-from trials import browsers, lines as scripts
+from trials import lines as scripts
 from bench_tool import Session, cases
 from bench_tool import page as pages
 from bench_tool.judge_adapter import plain
@@ -31,8 +31,6 @@ DIST, TRIALS = TOP / "dist", TOP / "tools/trials"
 PAGE = DIST / "bench.html"
 needs_page = unittest.skipUnless(PAGE.is_file(), "`make page` has made no page")
 needs_node = unittest.skipUnless(shutil.which("node"), "Node is not installed (Debian: nodejs)")
-needs_chromium = unittest.skipUnless(browsers.CHROMIUM, "no chromium is installed (Debian: chromium)")
-needs_firefox = unittest.skipUnless(browsers.FIREFOX, "no Firefox is installed (Debian: firefox-esr)")
 
 
 def coded(data):
@@ -128,7 +126,7 @@ class Program(unittest.TestCase):
     def test_random_scripts(self):
         """Replies and files, byte for byte."""
         for part in range(share(1, 10)):
-            chosen = [scripts.random_script(PROGRAM, random.Random(f"{part} {number}"), number) for number in range(1000)]
+            chosen = [scripts.random_script(PROGRAM, random.Random(f"{part} {number}"), number) for number in range(share(300, 1000))]
             for script, (replies, files) in zip(chosen, told([(script.lines, script.files, script.depth) for script in chosen])):
                 with tempfile.TemporaryDirectory() as folder, Session(PROGRAM, script.depth, folder) as judge, self.subTest(script.name):
                     self.assertEqual(replies, judge.batch(script.lines))
@@ -196,8 +194,8 @@ console.log(JSON.stringify(told));
             ["ok save 140", blind], "[9 1 5]", 140])
 
     def test_heap(self):
-        """A million random calls: nothing overlaps, and all is aligned."""
-        done = subprocess.run(["node", TRIALS / "page_heap.mjs", str(share(200_000, 1_000_000))], capture_output=True, text=True)
+        """Random calls, a million with BENCH_TESTS=all: nothing overlaps, and all is aligned."""
+        done = subprocess.run(["node", TRIALS / "page_heap.mjs", str(share(100_000, 1_000_000))], capture_output=True, text=True)
         self.assertEqual((done.returncode, done.stderr), (0, ""), done.stdout)
 
     @unittest.skipUnless(shutil.which("cc"), "the C compiler is not installed")
@@ -238,15 +236,7 @@ VALUES = """[...document.querySelectorAll("#pictures g.now")].map(row => [...row
 
 
 class InBrowser:
-    """The page in a browser that shows no window, opened from a file."""
-
-    @classmethod
-    def setUpClass(cls):
-        try:
-            cls.browser = cls.OPENS()
-        except (OSError, RuntimeError) as fault:  # (a time limit is an OSError)
-            raise unittest.SkipTest(f"the browser that is installed does not run here: {fault}")
-        cls.addClassCleanup(cls.browser.close)
+    """The page in a browser that shows no window, opened from a file: tools/test_browsers.py has the browsers."""
 
     def page(self, uri=PAGE.as_uri(), **look):
         self.browser.faults.clear()
@@ -536,9 +526,9 @@ class InBrowser:
         self.assertEqual(self.browser.faults, [])
 
     def seconds_of_a_key(self, page, place):
-        """The processor time from a blank that is typed at a place of the script to the picture: the least of five, of all of the browser."""
+        """The processor time from a blank that is typed at a place of the script to the picture: the least of some, of all of the browser."""
         took = []
-        for _ in range(5):
+        for _ in range(share(2, 5)):
             begun = self.browser.processor_seconds()
             page.ask(f"""(async () => {{ const ran = document.body.dataset.ran; script.setRangeText(' ', {place}, {place}, 'end'); script.dispatchEvent(new Event('input'));
                          while (document.body.dataset.ran === ran) await new Promise(done => setTimeout(done, 5)); }})()""")
@@ -578,20 +568,6 @@ class InBrowser:
                         page.wait(f"document.body.dataset.drawn === '{line + 1}'")
                         self.assertLessEqual(page.ask("document.documentElement.scrollWidth"), width, (name, line))
                     self.assertEqual(self.browser.faults, [], name)
-
-
-@needs_page
-@needs_chromium
-class InChromium(InBrowser, unittest.TestCase):
-    OPENS, WIDTHS, DRAWN = browsers.Chromium, share((1280,), (390, 1280)), share((0, None, 2), (None,))
-    LOOKS = share(((1280, False), (390, True)), ((390, False), (1280, False), (390, True)))
-
-
-@needs_page
-@needs_firefox
-class InFirefox(InBrowser, unittest.TestCase):
-    OPENS, WIDTHS, DRAWN = browsers.Firefox, share((390,), (390, 1280)), share((1, None, 2), (None,))
-    LOOKS = share(((390, False),), ((390, False), (1280, False), (390, True)))
 
 
 if __name__ == "__main__":

@@ -7,16 +7,22 @@ import re
 import shutil
 import signal
 import subprocess
-import sys
 import tempfile
 import time
 import unittest
+from unittest import mock
 
-from trials.companion_trials import COMPANION, PATIENT, PROGRAM, TOOL, TOP, InFolder, environment, needs_program, numpy_or_none, share, works
+from trials.companion_trials import PATIENT, PROGRAM, TOOL, TOP, InFolder, environment, needs_program, numpy_or_none, share, tool_here, works
 from trials import runs as hostile_runs
 from trials import lines as scripts
 
 TOLD = re.compile(r"(.*):(\d+): (E\d\d) ([^:]*): ?(.*)")
+
+
+def program_here(*words):
+    """What the program writes, and its status."""
+    done = subprocess.run([PROGRAM, *words], capture_output=True, stdin=subprocess.DEVNULL, env=environment(), timeout=PATIENT)
+    return done.stdout, done.stderr, done.returncode
 
 
 def ran(called, script, text):
@@ -24,9 +30,12 @@ def ran(called, script, text):
     with tempfile.TemporaryDirectory() as top:
         folder = pathlib.Path(top, "files")
         hostile_runs.fill(folder, script.files)
-        words = [text, f"--dir={folder}", *([] if script.depth is None else ["--undo", str(script.depth)])]
-        done = subprocess.run([*called, *words], capture_output=True, stdin=subprocess.DEVNULL, env=environment(), timeout=PATIENT)
-        return done.stdout, done.stderr.decode(), done.returncode, hostile_runs.contents(folder)
+        output, told, status = called(text, f"--dir={folder}", *([] if script.depth is None else ["--undo", str(script.depth)]))
+        return output, told.decode(), status, hostile_runs.contents(folder)
+
+
+def tool_runs(*words):
+    return tool_here("run", *words)
 
 
 def refusals(lines, output):
@@ -70,12 +79,12 @@ class Runs(InFolder):
 
     def tool(self, text, *words):
         path = self.written(text)
-        done = subprocess.run([TOOL, "run", path, *words], capture_output=True, env=environment(), timeout=PATIENT)
-        return done.stdout.decode(), done.stderr.decode().replace(path, "SCRIPT"), done.returncode
+        output, told, status = tool_here("run", path, *words)
+        return output.decode(), told.decode().replace(path, "SCRIPT"), status
 
     def compare(self, script):
         path = self.written(scripts.text_of(script.lines))
-        bench, tool = ran([PROGRAM], script, path), ran([TOOL, "run"], script, path)
+        bench, tool = ran(program_here, script, path), ran(tool_runs, script, path)
         self.assertEqual((tool[0], tool[2], tool[3]), (bench[0], bench[2], bench[3]))
         told = [TOLD.fullmatch(line) for line in tool[1].splitlines() if ": note: " not in line]
         self.assertNotIn(None, told)
@@ -103,8 +112,7 @@ class Runs(InFolder):
 
     def both(self, path):
         """A script by the program and by the companion: output, errors and status."""
-        return [(done.stdout, done.stderr, done.returncode) for done in (
-            subprocess.run([*called, path], capture_output=True, env=environment()) for called in ([PROGRAM], [TOOL, "run"]))]
+        return program_here(path), tool_runs(path)
 
     def test_texts_as_they_are(self):
         """Last lines without a newline, carriage returns, NULs, bytes of no text, no line at all."""
@@ -184,33 +192,31 @@ class Runs(InFolder):
         lines = 'i = full |u1 (2001) 9\na = zeros <i4 (3)\nb = a[i]\nb = a[3]\nsave a "a.npy"\n'
         for seconds in ("30", "0", "", "abc", "inf", "nan", "-1", "9" * 400):
             with self.subTest(seconds):
-                done = subprocess.run([TOOL, "run", "--dir", self.folder, self.written(lines)], capture_output=True, text=True, timeout=PATIENT,
-                                      env=environment(BENCH_HINT_SECONDS=seconds))
-                self.assertEqual((done.stdout.splitlines()[2:], done.returncode), (["no E11 index out of range"] * 2 + ["ok save 140"], 1))
-                self.assertEqual("BENCH_HINT_SECONDS is not a number from 0 to 3600" in done.stderr, seconds not in ("30", "0", ""))
-                self.assertIn("note: axis 0 of a has length 3: a number in i is outside, -3 to 2 are within", done.stderr)
-                self.assertIn("note: axis 0 of a has length 3: 3 is outside, -3 to 2 are within", done.stderr)
-        code = "import sys; from bench_tool import hints, main; hints.{} = lambda *_, **__: next(iter(())); sys.exit(main.main(['run', '--dir', *sys.argv[1:]]))"
+                output, told, status = tool_here("run", "--dir", self.folder, self.written(lines), BENCH_HINT_SECONDS=seconds)
+                self.assertEqual((output.splitlines()[2:], status), ([b"no E11 index out of range"] * 2 + [b"ok save 140"], 1))
+                self.assertEqual(b"BENCH_HINT_SECONDS is not a number from 0 to 3600" in told, seconds not in ("30", "0", ""))
+                self.assertIn(b"note: axis 0 of a has length 3: a number in i is outside, -3 to 2 are within", told)
+                self.assertIn(b"note: axis 0 of a has length 3: 3 is outside, -3 to 2 are within", told)
+        path = self.written(lines + "b = zeros f8 (3)\n")
         for broken in ("Hints._said", "Hints._start", "Session", "tempfile.TemporaryDirectory", "Numbers", "language.codes", "Reading", "translated"):
-            with self.subTest(broken):
-                done = subprocess.run([sys.executable, "-c", code.format(broken), self.folder, self.written(lines + "b = zeros f8 (3)\n")], capture_output=True,
-                                      text=True, env=environment(PYTHONPATH=str(COMPANION)), timeout=PATIENT)
-                self.assertEqual((done.stdout.splitlines()[4:], done.returncode), (["ok save 140", "no E05 descriptor left out"], 1), done.stderr)
+            with self.subTest(broken), mock.patch(f"bench_tool.hints.{broken}", lambda *_, **__: next(iter(()))):
+                output, told, status = tool_here("run", "--dir", self.folder, path)
+                self.assertEqual((output.splitlines()[4:], status), ([b"ok save 140", b"no E05 descriptor left out"], 1), told)
 
     def test_what_nothing_catches(self):
         """An exception of the tool itself is told in one line, with where it was."""
         for raised, said in (("1 // 0", r"bench-tool: ZeroDivisionError in <string>, line 1: .*; this is a defect of bench-tool: please report it with this line\n"),
                              ("[0] * 10**18", "bench-tool: out of memory\n"), ("next(iter(()))", "bench-tool: StopIteration .*report.*\n")):
             for module, words in (("runs.run", ["run", "-"]), ("show.show", ["show", "a"]), ("page.draw", ["draw", "-"]), ("shell.shell", ["shell"])):
-                code = f"import sys; from bench_tool import main, {module.split('.')[0]}; {module} = lambda _: {raised}; sys.exit(main.main({words}))"
-                done = subprocess.run([sys.executable, "-c", code], capture_output=True, text=True, env=environment(PYTHONPATH=str(COMPANION)))
-                self.assertEqual((done.stdout, done.returncode), ("", 3))
-                self.assertRegex(done.stderr, f"^{said}$")
+                with self.subTest(module), mock.patch(f"bench_tool.{module}", eval(f"lambda _: {raised}")):
+                    output, told, status = tool_here(*words)
+                    self.assertEqual((output, status), (b"", 3))
+                    self.assertRegex(told.decode(), f"^{said}$")
 
     def test_ctrl_c_at_once(self):
         """Ctrl-C while the tool begins ends it with status 130 and no traceback of its own. (Python itself may write one, before it runs the tool's first line.)"""
         path, rng = self.written("a = arange <i4 0 9 1\nprint a\n" * 50), random.Random(1)
-        for _ in range(share(10, 100)):
+        for _ in range(share(5, 100)):
             for words in (["run", path], ["--help"], ["draw", path], ["show", path]):
                 tool = subprocess.Popen([TOOL, *words], stdout=subprocess.DEVNULL, stderr=subprocess.PIPE, env=environment(), preexec_fn=heard)
                 time.sleep(0.02 + rng.random() * 0.25)

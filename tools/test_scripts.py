@@ -150,7 +150,7 @@ class InHypothesis(unittest.TestCase):
         def copies(command):
             return command.word == "set" and isinstance(command.value, commands.Operand) and command.value.name == command.target
 
-        strategy = testing.scripts(types=["<i4"], commands=["array", "select", "set"], refused=False)
+        strategy = testing.scripts(types=["<i4"], commands=["array", "select", "set"], refused=False, size=share(12, 30))
         lines = self.found(strategy, lambda steps: any(copies(step.command) and step.reply != "ok set 0" for step in steps))
         self.assertLessEqual(len(lines), 4, lines)
 
@@ -212,6 +212,9 @@ class InPytest(InFolder):
         """The test that COMPANION shows finds the mistake of the library beside it, with few lines; with the mistake taken out it passes."""
         library, test = self.examples("division")
         pathlib.Path(self.folder, "test_division.py").write_text(test)
+        pathlib.Path(self.folder, "conftest.py").write_text(
+            f"import hypothesis\nhypothesis.settings.register_profile('here', max_examples={share(40, 100)}, derandomize={share(True, False)})\n"
+            "hypothesis.settings.load_profile('here')\n")
         right = library.replace("int(value / divisor)", "(value // divisor + 2**31) % 2**32 - 2**31")
         for text, status in ((library, 1), (right, 0)):
             pathlib.Path(self.folder, "division.py").write_text(text)

@@ -1,11 +1,10 @@
 """Who sees a write: `seen by s, head and temp`, beside NumPy's memory."""
 import random
 import re
-import subprocess
 import unittest
 from unittest import mock
 
-from trials.companion_trials import PATIENT, PROGRAM, TOOL, InFolder, environment, needs_program, numpy_or_none, share
+from trials.companion_trials import PATIENT, PROGRAM, InFolder, needs_program, numpy_or_none, share, tool_here
 from bench_tool import Session, hints, seen
 from bench_tool.seen import Places
 
@@ -88,10 +87,10 @@ class Seen(InFolder):
     def test_run_explains(self):
         script = self.folder / "script.bench"
         script.write_text("\n".join([*BEGIN, "row = m[1]", "c = copy m C", "set row[2] = 5", "upd c[0] add 1", "set m[0,0] = 1", "set a[:0] = 1", "set a[99] = 1"]) + "\n")
-        done = subprocess.run([TOOL, "run", "--explain", script], capture_output=True, text=True, env=environment())
-        told = [line.replace(str(script), "SCRIPT") for line in done.stderr.splitlines()]
+        _, said, status = tool_here("run", "--explain", script)
+        told = [line.replace(str(script), "SCRIPT") for line in said.decode().splitlines()]
         self.assertEqual(told[:3], ["SCRIPT:6: seen by a, m and row", "SCRIPT:7: seen by c only", "SCRIPT:8: seen by a and m"])
-        self.assertEqual((len(told), done.returncode), (5, 1))
+        self.assertEqual((len(told), status), (5, 1))
 
 
 if __name__ == "__main__":

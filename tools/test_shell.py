@@ -107,10 +107,12 @@ class Shells(InFolder):
         self.assertEqual(shell.line(b"set temp[:0] = 5"), "ok set 0\n")
 
     def test_topics_of_the_help(self):
-        for line, said in ((b"help views", "a write through either name"), (b"help float", "there are no floats"), (b"help broadcasting", "aligns the shape"),
-                           (b"help(set)", "writes a literal"), (b'help("E11")', "an integer is outside its axis"), (b"help zzz", "there is no command zzz")):
-            done = subprocess.run([TOOL, "shell"], input=line + b"\n", capture_output=True, env=environment())
-            self.assertIn(said, done.stdout.decode())
+        topics = {"help views": "a write through either name", "help float": "there are no floats", "help broadcasting": "aligns the shape",
+                  "help(set)": "writes a literal", 'help("E11")': "an integer is outside its axis", "help zzz": "there is no command zzz"}
+        lines = "".join(f"{line}\nprint behind\n" for line in topics)
+        done = subprocess.run([TOOL, "shell"], input=lines, capture_output=True, text=True, env=environment())
+        for said, text in zip(topics.values(), done.stdout.split("no E06 unknown name\n")):
+            self.assertIn(said, text)
 
     def test_help_and_quit(self):
         shell = self.shell()

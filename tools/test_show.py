@@ -2,10 +2,11 @@
 import math
 import os
 import random
+import re
 import subprocess
 import unittest
 
-from trials.companion_trials import PROGRAM, TOOL, InFolder, environment, needs_program, numpy_or_none, share
+from trials.companion_trials import PROGRAM, TOOL, InFolder, environment, needs_program, numpy_or_none, share, tool_here
 from bench_tool import Session
 
 
@@ -19,8 +20,12 @@ class Shows(InFolder):
             self.whole = bench.send("print m").text
 
     def show(self, *words, **size):
-        done = subprocess.run([TOOL, "show", *words], capture_output=True, text=True, env=environment(**size), cwd=self.folder)
-        return done.stdout, done.stderr, done.returncode
+        return self.tool("show", *words, **size)
+
+    def tool(self, *words, **size):
+        """What bench-tool writes in the folder."""
+        output, told, status = tool_here(*words, where=self.folder, **size)
+        return output.decode(), told.decode(), status
 
     def test_record(self):
         """The fields with types and offsets, and one record a line with the byte where it begins."""
@@ -139,13 +144,15 @@ class Shows(InFolder):
 
     def test_headers_that_are_no_headers(self):
         """A shape that is none, a number of many digits, a length that would take all memory."""
+        names = []
         for shape, descr in (("('a',)", "<i4"), (f"(0x{'f' * 4000},)", "<i4"), ("('a',)", "<S20000000000"), ("5", "<i4"), ("(2.5,)", "<i4"), ("{}", "<i4"),
                              ("(True,)", "<f4"), ("(None,)", "<f4"), (f"({'9' * 300},)", "<f8"), ("(-3,)", "<f8")):
             text = f"{{'descr': {descr!r}, 'fortran_order': False, 'shape': {shape}, }}"
-            (self.folder / "f.npy").write_bytes(b"\x93NUMPY\1\0" + len(text).to_bytes(2, "little") + text.encode() + b"\0" * 40)
-            done = subprocess.run(["sh", "-c", 'ulimit -v 3000000; exec "$@"', "sh", TOOL, "show", "f.npy"], capture_output=True, text=True, env=environment(), cwd=self.folder)
-            self.assertRegex(done.stderr, r"^f\.npy: E(05|30) ")
-            self.assertEqual(done.returncode, 1)
+            names.append(f"f{len(names)}.npy")
+            (self.folder / names[-1]).write_bytes(b"\x93NUMPY\1\0" + len(text).to_bytes(2, "little") + text.encode() + b"\0" * 40)
+        done = subprocess.run(["sh", "-c", 'ulimit -v 3000000; exec "$@"', "sh", TOOL, "show", *names], capture_output=True, text=True, env=environment(), cwd=self.folder)
+        self.assertEqual(re.findall(r"^(f\d\.npy): E(?:05|30) ", done.stderr, re.M), names)
+        self.assertEqual(done.returncode, 1)
 
     def test_damaged_headers(self):
         """No header ends it otherwise than with a code."""
@@ -157,10 +164,6 @@ class Shows(InFolder):
             self.assertRegex(shown[1], r"^f\.npy: E\d\d ")
             self.assertEqual(shown[2], 1)
 
-    def pack(self, *words):
-        done = subprocess.run([TOOL, *words], capture_output=True, text=True, env=environment(), cwd=self.folder)
-        return done.stdout, done.stderr, done.returncode
-
     def test_pack_and_unpack(self):
         """Raw bytes become a file that bench loads, and its items are the same bytes again."""
         items = bytes(range(120))
@@ -168,12 +171,12 @@ class Shows(InFolder):
         for kind, shape, order, size in (("<i4", "(5,6)", "C", 30), (">u2", "(-1,4)", "F", 60), ("T{<I:t:<h:temp:}", "20", "C", 20), ("|S3", "(2,-1)", "F", 40), ("u1", "()", "C", 1)):
             with self.subTest(kind):
                 (self.folder / "raw.bin").write_bytes(b"head" + items[:120 if shape != "()" else 1])
-                self.assertEqual(self.pack("pack", "raw.bin", kind, shape, "--offset", "4", "--order", order, "-o", "made.npy")[1:], ("", 0))
+                self.assertEqual(self.tool("pack", "raw.bin", kind, shape, "--offset", "4", "--order", order, "-o", "made.npy")[1:], ("", 0))
                 with Session(PROGRAM, dir=self.folder) as bench:
                     self.assertIn(" rest 0", bench.ask('x = load "made.npy"'))
                     self.assertEqual(math.prod(bench.info("x").shape), size)
                     self.assertEqual("F" in bench.info("x").order, order == "F" or len(bench.info("x").shape) < 2)
-                self.assertEqual(self.pack("unpack", "made.npy", "-o", "back.bin")[1:], ("", 0))
+                self.assertEqual(self.tool("unpack", "made.npy", "-o", "back.bin")[1:], ("", 0))
                 self.assertEqual((self.folder / "back.bin").read_bytes(), items[:120 if shape != "()" else 1])
 
     def test_pack_where_sizes_do_not_agree(self):
@@ -185,12 +188,13 @@ class Shows(InFolder):
             (["<i4", "3,-1"], "2 items cannot be divided into 3,-1"), (["<f4", "2"], "bench has no floats: the type is <f4"), (["zz", "2"], "the type is 'zz', which is no type of bench"),
             (["<i4", "two"], "a shape is written as (2,3) or 40, not as two"), (["<i4", "1", "--offset", "30"], "it has 10 bytes, and --offset is 30"),
         ):
-            self.assertEqual(self.pack("pack", "raw.bin", *words, "-o", "made.npy"), ("", f"raw.bin: {said}\n", 1))
+            self.assertEqual(self.tool("pack", "raw.bin", *words, "-o", "made.npy"), ("", f"raw.bin: {said}\n", 1))
         self.assertFalse((self.folder / "made.npy").exists())
         (self.folder / "cut.npy").write_bytes((self.folder / "a.npy").read_bytes()[:-5])
-        self.assertEqual(self.pack("unpack", "cut.npy", "-o", "made.bin"), ("", "cut.npy: 5 bytes of items missing\n", 1))
-        self.assertEqual(self.pack("pack", "nowhere.bin", "<i4", "1", "-o", "x")[2], 3)
-        self.assertEqual(self.pack("pack", ".", "<i4", "1", "-o", "x")[1], ".: not a regular file\n")
+        self.assertEqual(self.tool("unpack", "cut.npy", "-o", "made.bin"), ("", "cut.npy: 5 bytes of items missing\n", 1))
+        nowhere = subprocess.run([TOOL, "pack", "nowhere.bin", "<i4", "1", "-o", "x"], capture_output=True, env=environment(), cwd=self.folder)
+        self.assertEqual((nowhere.stdout, nowhere.returncode), (b"", 3))
+        self.assertEqual(self.tool("pack", ".", "<i4", "1", "-o", "x")[1], ".: not a regular file\n")
 
     @unittest.skipUnless(numpy_or_none(), "NumPy is not installed")
     def test_packed_files_are_numpys(self):
@@ -198,7 +202,7 @@ class Shows(InFolder):
         array = numpy.arange(24, dtype="<i4").reshape(4, 6)
         for order in "CF":
             (self.folder / "raw.bin").write_bytes(array.tobytes(order))
-            self.pack("pack", "raw.bin", "<i4", "4,6", "--order", order, "-o", "made.npy")
+            self.tool("pack", "raw.bin", "<i4", "4,6", "--order", order, "-o", "made.npy")
             self.assertEqual(numpy.load(self.folder / "made.npy").tolist(), array.tolist())
             numpy.save(self.folder / "saved.npy", numpy.asarray(array, order=order))
             self.assertEqual((self.folder / "made.npy").read_bytes(), (self.folder / "saved.npy").read_bytes())

@@ -48,6 +48,14 @@ def names_of_what_runs():
 
 
 class Bytes(unittest.TestCase):
+    OPENS = "a wheel"
+
+    @classmethod
+    def setUpClass(cls):
+        folder = tempfile.TemporaryDirectory()
+        cls.addClassCleanup(folder.cleanup)
+        cls.wheel = made(pathlib.Path(folder.name))
+
     def setUp(self):
         folder = tempfile.TemporaryDirectory()
         self.addCleanup(folder.cleanup)
@@ -55,7 +63,6 @@ class Bytes(unittest.TestCase):
 
     def test_the_same_bytes(self):
         """A copy of the tree with other times and modes gives the same wheel, named as pip wants it."""
-        first = made(self.folder)
         code = "import sys; sys.path.insert(0, 'companion'); import backend; open('wheel', 'wb').write(backend.wheel(backend.built('x86_64'), 'manylinux_2_34_x86_64')[1])"
         tree = self.folder / "tree"
         for path in ("companion", "docs", "dist", "vectors", "bench", "LICENSE-MIT", "LICENSE-APACHE", "out/library", "crates/bench_main/out/bench_main"):
@@ -65,12 +72,12 @@ class Bytes(unittest.TestCase):
                 (tree / path).parent.mkdir(parents=True, exist_ok=True)
                 shutil.copyfile(TOP / path, tree / path)
         subprocess.run([sys.executable, "-B", "-c", code], cwd=tree, check=True)
-        self.assertEqual((tree / "wheel").read_bytes(), first.read_bytes())
-        self.assertRegex(first.name, r"^bench_tool-[\d.]+-py3-none-manylinux_2_34_x86_64\.whl$")
+        self.assertEqual((tree / "wheel").read_bytes(), self.wheel.read_bytes())
+        self.assertRegex(self.wheel.name, r"^bench_tool-[\d.]+-py3-none-manylinux_2_34_x86_64\.whl$")
 
     def test_record(self):
         """RECORD has each file with its sum and its size, and itself without; .dist-info comes last; what runs may be run."""
-        with zipfile.ZipFile(made(self.folder)) as wheel:
+        with zipfile.ZipFile(self.wheel) as wheel:
             names = wheel.namelist()
             recorded = [line.split(",") for line in wheel.read(f"{backend.stem()}.dist-info/RECORD").decode().splitlines()]
             self.assertEqual(sorted(names), sorted(name for name, _, _ in recorded))
@@ -144,7 +151,7 @@ class Installed(unittest.TestCase):
         self.bin = self.folder / "venv/bin"
         env = {**ENVIRONMENT, "PATH": f"{self.bin}:/usr/bin:/bin", "PIP_NO_INDEX": "1", "PIP_DISABLE_PIP_VERSION_CHECK": "1"}
         subprocess.run(["sh", "-c", PASTED], cwd=self.folder, check=True, env=env, stdout=subprocess.DEVNULL)
-        for part in (self.commands, self.commands_with_files, self.by_the_program, self.example_of_the_readme, self.as_pipx_does, self.goes_again):
+        for part in (self.commands, self.commands_with_files, self.by_the_program, self.example_of_the_readme, self.as_pipx_does, self.goes_again, self.from_a_checkout):
             with self.subTest(part.__name__):
                 part()
 
@@ -208,7 +215,7 @@ class Installed(unittest.TestCase):
         subprocess.run([self.bin / "python", "-m", "pip", "uninstall", "-q", "-y", "bench-tool"], check=True, env=ENVIRONMENT, stderr=subprocess.DEVNULL)
         self.assertEqual([path for path in (self.folder / "venv").rglob("bench*") if "__pycache__" not in path.parts], [])
 
-    def test_from_a_checkout(self):
+    def from_a_checkout(self):
         """pip builds the wheel of the folder companion/ itself, and with -e leaves the modules there."""
         tree = self.folder / "tree"
         for path in ("companion", "docs", "dist"):

@@ -4,7 +4,6 @@ from __future__ import annotations
 import re
 from base64 import b64encode
 from functools import cached_property
-from html import escape, unescape
 from typing import Any, Optional, Protocol
 
 from . import page
@@ -86,6 +85,7 @@ class Drawing:
             return None
 
     def _repr_html_(self) -> str:
+        from html import escape, unescape
         svg = self._repr_svg_()
         if svg is None:
             return FRAME.format(escape(page.in_browser(self._told)), escape(self.line))

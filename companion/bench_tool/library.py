@@ -3,7 +3,6 @@ from __future__ import annotations
 
 import ctypes
 import os
-import platform
 from contextlib import suppress
 from ctypes import byref, c_char_p, c_int, c_size_t, c_void_p
 from functools import lru_cache
@@ -34,7 +33,7 @@ CALLS = {
 @lru_cache(None)
 def names() -> tuple[str, ...]:
     """The names of the library in a folder, for this machine, the best one first."""
-    if platform.machine() == "aarch64":
+    if os.uname().machine == "aarch64":
         return ("libbench-aarch64.so.1", NAME)
     with suppress(OSError), open("/proc/cpuinfo", "rb", 0) as told:
         flags = told.read(1 << 13).decode(errors="replace").partition("\nflags")[2].partition("\n")[0]

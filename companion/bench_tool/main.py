@@ -4,9 +4,9 @@ import errno
 import os
 import signal
 import sys
-from typing import Any, Callable, Optional, Sequence
+from typing import Any, Callable, NoReturn, Optional, Sequence
 
-from . import __version__, page, raw, runs, shell, show
+from . import __version__
 from .session import BenchError
 from .terminal import defect, drop_unwritten, open_streams, printable, say
 
@@ -27,12 +27,19 @@ def count(text: str) -> int:
     return int(text)
 
 
+class Parser(argparse.ArgumentParser):
+    def error(self, message: str) -> NoReturn:
+        """Says what is wrong with the arguments, if possible: the argparse of some versions of Python fails where standard error is full."""
+        say(f"{self.format_usage()}{self.prog}: error: {message}")
+        sys.exit(2)
+
+
 def parser() -> argparse.ArgumentParser:
     common, script = (argparse.ArgumentParser(add_help=False) for _ in range(2))
     common.add_argument("--undo", type=depth, default=16, metavar="N", help="how many changes undo can take back, 0 to 64 (default: 16)")
     common.add_argument("--dir", default=".", help="the folder for load and save (default: the current folder)")
     script.add_argument("script", metavar="SCRIPT", help="the script; - is standard input")
-    made = argparse.ArgumentParser(prog="bench-tool", description="The companion of bench, a workbench for strided arrays.")
+    made = Parser(prog="bench-tool", description="The companion of bench, a workbench for strided arrays.")
     made.add_argument("--version", action="version", version=f"bench-tool {__version__}")
     commands = made.add_subparsers(metavar="COMMAND")
 
@@ -41,30 +48,30 @@ def parser() -> argparse.ArgumentParser:
         added.set_defaults(call=call)
         return added
 
-    command("shell", shell.shell, "a prompt with history, Tab and help", common)
-    run = command("run", runs.run, "runs a script and says where each line is refused", script, common)
-    run.add_argument("--stop", action="store_true", help="end at the first refusal")
-    run.add_argument("--summary", action="store_true", help="say how many lines were accepted and refused")
-    run.add_argument("--explain", action="store_true", help="say which names see what set and upd wrote")
-    run.add_argument("--time", action="store_true", help="say how long each line took")
-    shown = command("show", show.show, "shows NPY files: type, fields and items, or what is wrong")
+    command("shell", shell, "a prompt with history, Tab and help", common)
+    ran = command("run", run, "runs a script and says where each line is refused", script, common)
+    ran.add_argument("--stop", action="store_true", help="end at the first refusal")
+    ran.add_argument("--summary", action="store_true", help="say how many lines were accepted and refused")
+    ran.add_argument("--explain", action="store_true", help="say which names see what set and upd wrote")
+    ran.add_argument("--time", action="store_true", help="say how long each line took")
+    shown = command("show", show, "shows NPY files: type, fields and items, or what is wrong")
     shown.add_argument("files", metavar="FILE.npy", nargs="+")
     shown.add_argument("--all", action="store_true", help="all items, not only what fits the window")
     shown.add_argument("--check", action="store_true", help="one line for each file; bytes behind the last item are wrong too")
-    packed = command("pack", raw.pack, "makes an NPY file of raw bytes")
+    packed = command("pack", pack, "makes an NPY file of raw bytes")
     packed.add_argument("file", metavar="FILE.bin")
     packed.add_argument("type", metavar="TYPE", help="the type of an item, as <i4 or T{<I:t:<h:temp:}")
     packed.add_argument("shape", metavar="SHAPE", help="the shape, as (2,3) or 40; one length may be -1")
     packed.add_argument("--offset", type=count, default=0, metavar="N", help="where the items begin (default: 0)")
     packed.add_argument("--order", choices=("C", "F"), default="C", help="the order of the items (default: C)")
-    unpacked = command("unpack", raw.unpack, "writes the items of an NPY file as raw bytes")
+    unpacked = command("unpack", unpack, "writes the items of an NPY file as raw bytes")
     unpacked.add_argument("file", metavar="FILE.npy")
     for each, name in ((packed, "FILE.npy"), (unpacked, "FILE.bin")):
         each.add_argument("-o", dest="output", metavar=name, required=True, help="the file to write")
-    draw = command("draw", page.draw, "draws memory line by line, as a page or as SVG", script, common)
-    draw.add_argument("-o", dest="output", metavar="PAGE.html", help="the file to write (default: standard output)")
-    draw.add_argument("--line", type=int, metavar="N", help="the line that the page opens with, or that is drawn as SVG")
-    draw.add_argument("--svg", action="store_true", help="one picture, of line N")
+    drawn = command("draw", draw, "draws memory line by line, as a page or as SVG", script, common)
+    drawn.add_argument("-o", dest="output", metavar="PAGE.html", help="the file to write (default: standard output)")
+    drawn.add_argument("--line", type=int, metavar="N", help="the line that the page opens with, or that is drawn as SVG")
+    drawn.add_argument("--svg", action="store_true", help="one picture, of line N")
     add_judge(command("judge", judge, "asks array libraries cases and random scripts, and reports where they are wrong"))
     return made
 
@@ -86,10 +93,41 @@ def add_judge(parser: argparse.ArgumentParser) -> None:
         parser.add_argument(f"--{name}", metavar="FILE", help=f"write the report as {form}")
 
 
+# Each command loads its module when it is called: so none takes the time to load those of the others.
+
+def shell(words: argparse.Namespace) -> int:
+    from .shell import shell as called
+    return called(words)
+
+
+def run(words: argparse.Namespace) -> int:
+    from .runs import run as called
+    return called(words)
+
+
+def show(words: argparse.Namespace) -> int:
+    from .show import show as called
+    return called(words)
+
+
+def pack(words: argparse.Namespace) -> int:
+    from .raw import pack as called
+    return called(words)
+
+
+def unpack(words: argparse.Namespace) -> int:
+    from .raw import unpack as called
+    return called(words)
+
+
+def draw(words: argparse.Namespace) -> int:
+    from .page import draw as called
+    return called(words)
+
+
 def judge(words: argparse.Namespace) -> int:
-    """Judges array libraries. Only this command takes the time to load the judge."""
-    from .judge import judge as judged
-    return judged(words)
+    from .judge import judge as called
+    return called(words)
 
 
 def ended(number: int, _: Any) -> None:
@@ -105,7 +143,7 @@ def called(words: argparse.Namespace, arguments: Optional[Sequence[str]]) -> int
         parser().parse_args(arguments, words)
         if words.call:
             return int(words.call(words))
-        parser().print_help(sys.stderr)
+        say(parser().format_help().removesuffix("\n"))
         return 2
     finally:
         sys.stdout.flush()
@@ -122,14 +160,14 @@ def main(arguments: Optional[Sequence[str]] = None) -> int:
         return called(words, arguments)
     except BenchError as fault:
         # The program says itself why it ends with 3.
-        if words.call is not runs.run or getattr(fault, "status", 0) != 3:
+        if words.call is not run or getattr(fault, "status", 0) != 3:
             say(f"bench-tool: {printable(str(fault), 500)}")
     except OSError as fault:
         # Nothing that is left may be written at the end.
         os.dup2(os.open(os.devnull, os.O_WRONLY), 1)
         said = "a standard stream is closed" if fault.errno == errno.EBADF else fault.strerror or str(fault)
         named = f": {os.fsdecode(fault.filename)}" if fault.filename else ""
-        say("bench: write fault" if words.call is runs.run else f"bench-tool: {printable(said + named)}")
+        say("bench: write fault" if words.call is run else f"bench-tool: {printable(said + named)}")
     except MemoryError:
         say("bench-tool: out of memory")
     except Exception as fault:

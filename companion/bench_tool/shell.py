@@ -8,7 +8,6 @@ import sys
 import tempfile
 import threading
 import time
-import webbrowser
 from collections import deque
 from contextlib import ExitStack, contextmanager, suppress
 from itertools import combinations
@@ -352,6 +351,7 @@ class Shell:
         page.write(str(path), page.drawn("session", self.script().splitlines(), self.words))
         print(f"    {printable(str(path))}")
         if os.environ.get("DISPLAY") or os.environ.get("WAYLAND_DISPLAY"):
+            import webbrowser
             webbrowser.open(path.as_uri())
 
     def complete(self, text: str, state: int) -> Optional[str]:

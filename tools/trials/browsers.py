@@ -20,14 +20,30 @@ from .companion_trials import PATIENT
 CHROMIUM: Optional[str] = next(filter(None, map(shutil.which, ("chromium", "chromium-browser", "google-chrome"))), None)
 FIREFOX: Optional[str] = next(filter(None, map(shutil.which, ("firefox-esr", "firefox"))), None)
 MASKED = bytes(255 - byte for byte in range(256))
+# The last two: a tab behind another one is no slower.
 SETTINGS = {"browser.download.folderList": 2, "browser.shell.checkDefaultBrowser": False, "browser.startup.page": 0,
-            "datareporting.policy.dataSubmissionEnabled": False, "dom.ipc.keepProcessesAlive.file": 4}
+            "datareporting.policy.dataSubmissionEnabled": False, "dom.ipc.keepProcessesAlive.file": 4,
+            "dom.min_background_timeout_value": 4, "dom.timeout.enable_budget_timer_throttling": False}
 # The number of a key in chromium, and its letter in Firefox.
 KEYS = {"Enter": (13, "\ue007"), "Tab": (9, "\ue004"), "Escape": (27, "\ue00c"), "Backspace": (8, "\ue003"), "ArrowLeft": (37, "\ue012"),
         "ArrowUp": (38, "\ue013"), "ArrowRight": (39, "\ue014"), "ArrowDown": (40, "\ue015")}
 FEW, FEW_KEYS = 200, 16  # letters that are not pasted: in chromium as one text, in Firefox a key each
 COPIES = """addEventListener('copy', event => { event.clipboardData.setData('text/plain', %s); event.preventDefault(); }, { once: true }),
 document.execCommand('copy')"""
+
+
+# Looks in a page until an expression is true, for some seconds, and ever less often.
+LOOKS = """(async () => {
+    for (let pause = 10, end = performance.now() + 5000; performance.now() < end; pause = Math.min(1.3 * pause, 200)) {
+        const found = %s;
+        if (found) return found;
+        await new Promise(done => setTimeout(done, pause));
+    }
+})()"""
+
+
+class Gone(RuntimeError):
+    """A call that the browser did not carry out, as where the page has gone."""
 
 
 class Socket:
@@ -129,7 +145,7 @@ class Browser(contextlib.ExitStack):
                 self.faults.append(json.dumps(reply["params"])[:2000])
             if reply.get("id") == self._number:
                 if "error" in reply:
-                    raise RuntimeError(f"{method}: {reply['error']}: {reply.get('message')}")
+                    raise Gone(f"{method}: {reply['error']}: {reply.get('message')}")
                 return reply["result"]
 
     def processor_seconds(self) -> float:
@@ -166,14 +182,15 @@ class Page:
         raise NotImplementedError
 
     def wait(self, text: str) -> Any:
-        """Waits until an expression is true, and asks ever less often."""
-        end, pause = time.monotonic() + PATIENT, 0.01
-        while not (found := self.ask(text)):
-            if time.monotonic() > end:
-                raise TimeoutError(text)
-            time.sleep(pause)
-            pause = min(1.3 * pause, 0.2)
-        return found
+        """Waits until an expression is true. The page itself looks: a question from here would take as long as a line of a script."""
+        end = time.monotonic() + PATIENT
+        while time.monotonic() < end:
+            with contextlib.suppress(Gone):  # (another page takes its place)
+                if found := self.ask(LOOKS % text):
+                    return found
+                continue
+            time.sleep(0.05)
+        raise TimeoutError(text)
 
 
 class Chromium(Browser):

@@ -4,7 +4,9 @@ A test holds on any machine: whatever its user has set, whoever that is, however
 of the environment here, time is measured as the processor's, and waiting ends only where nothing will come."""
 from __future__ import annotations
 
+import contextlib
 import functools
+import io
 import os
 import resource
 import shutil
@@ -12,7 +14,10 @@ import subprocess
 import tempfile
 import unittest
 from pathlib import Path
-from typing import Any, Iterable, TypeVar
+from typing import Any, Iterable, Iterator, TypeVar
+from unittest import mock
+
+from bench_tool.main import main
 
 from . import TOP
 
@@ -29,6 +34,7 @@ SETTINGS = ("BASH_ENV", "BENCH_HISTORY", "CDPATH", "COLUMNS", "ENV", "GLIBC_TUNA
 
 for setting in SETTINGS:
     os.environ.pop(setting, None)
+os.environ["BENCH_HINT_SECONDS"] = "30"  # for hints on a loaded machine
 os.umask(0o022)
 
 
@@ -38,9 +44,30 @@ def share(few: T, all_: T) -> T:
 
 
 def environment(**more: str) -> dict[str, str]:
-    """The environment of a companion that is run, with time for its hints on a loaded machine and Python's own buffers."""
+    """The environment of a companion that is run, with Python's own buffers."""
     own = {name: text for name, text in os.environ.items() if name != "PYTHONUNBUFFERED"}
-    return {**own, "BENCH": PROGRAM, "BENCH_HINT_SECONDS": "30", **more}
+    return {**own, "BENCH": PROGRAM, **more}
+
+
+@contextlib.contextmanager
+def inside(folder: str | Path) -> Iterator[None]:
+    """Another current folder for a while."""
+    before = os.getcwd()
+    os.chdir(folder)
+    try:
+        yield
+    finally:
+        os.chdir(before)
+
+
+def tool_here(*words: str | Path, where: str | Path = ".", **more: str) -> tuple[bytes, bytes, int]:
+    """What `bench-tool` writes, and its status: in this process, which takes a tenth of the time of a new one. The window is the usual one."""
+    out, err = io.BytesIO(), io.BytesIO()
+    streams = [io.TextIOWrapper(each, "utf-8", "backslashreplace") for each in (out, err)]
+    settings = environment(**{"LINES": "24", "COLUMNS": "80", **more})
+    with mock.patch.dict(os.environ, settings, clear=True), inside(where), contextlib.redirect_stdout(streams[0]), contextlib.redirect_stderr(streams[1]):
+        status = main(list(map(str, words)))
+    return out.getvalue(), err.getvalue(), status
 
 
 def numpy_or_none() -> Any:
