@@ -92,6 +92,18 @@ pub(crate) fn shifts(
     Ok(shifts)
 }
 
+/// Adds to each shift the distance of its offset from the start.
+fn grow(shifts: &mut [u32], start: u32, offsets: &[u32])
+    requires start { start ≤ max_bytes }
+    requires many { length offsets.now ≡ length shifts.old }
+    requires can { AllCanGrow start (λ k. get_or offsets.now k 0) shifts.old }
+    ensures { HaveAllGrown start (λ k. get_or offsets.now k 0) shifts.old shifts.new }
+{
+    for k in 0..shifts.len() {
+        shifts[k] = shifts[k] + offsets[k] - start;
+    }
+}
+
 /// Adds each point's displacement to `places.count` consecutive shifts, from index `at` on.
 #[inline(always)]
 fn grow_each(shifts: &mut [u32], at: usize, start: u32, offsets: &[u32], places: Run)
@@ -186,8 +198,12 @@ fn add_points(
         OnOk result (HaveGrown origin.entry.start (count lengths) number old shifts.new.items) }
 {
     let start = origin.start as u32;
-    if shifts.is_empty() && own == origin.lengths {
-        *shifts = offsets;
+    if own == origin.lengths {
+        if shifts.is_empty() {
+            *shifts = offsets;
+        } else {
+            grow(shifts.as_mut_slice(), start, offsets.as_slice());
+        }
         return Ok(());
     }
     let places = stretched_places(alloc, own, origin.lengths)?;
