@@ -64,7 +64,10 @@ class Question:
         return {"id": self.id, "steps": [command.to_json() for command in self.commands], **({"files": files} if files else {}), **more}
 
     def retyped(self, types: Mapping[str, str]) -> Question:
-        """The same question about other types. Those of the results are not compared then."""
+        """The same question about other types, if there are any. Those of the results are not compared then."""
+        if not types:
+            return self
+
         def changed(command: Command) -> Command:
             type_ = types.get(getattr(command, "type", ""))
             return replace(command, type=type_) if type_ else command  # type: ignore[type-var]

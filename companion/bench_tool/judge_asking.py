@@ -132,7 +132,7 @@ class Asker:
             return [Verdict(UNSUPPORTED, questions[0], f"it lacks {', '.join(sorted(case.needs - self.worker.has))}")]
         found = [Verdict(UNSUPPORTED, question, f"it has arrays of {self.worker.most_axes} axes") for question in questions if question.axes > self.worker.most_axes]
         for question in (each for each in questions if each.axes <= self.worker.most_axes):
-            found.append(self.verdict(question.retyped(types) if types else question))
+            found.append(self.verdict(question.retyped(types)))
             if sum(verdict.verdict == DIES for verdict in found) >= MOST_DEATHS_OF_CASE:
                 break
         return found
