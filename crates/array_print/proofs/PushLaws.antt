@@ -42,9 +42,9 @@ module _ {a : List ℕ} {w w1 : Option (List ℕ)} {old mid : Room} (first : Hel
   held-more {b} {w2} {new} second = record {
     sends = sends-more w w1 w2 old.text.items mid.text.items new.text.items a b first.sends second.sends;
     unsent = λ is.
-    let same : mid.sent ≡ old.sent = omega (arith, first.later, second.later, is.1) in
-    let late = second.unsent (omega (arith, is.0, same), is.1 ∙ sym same) in
-    late ∙ ap (λ t. t ++ b) (first.unsent (is.0, same)) ∙ append_assoc old.text.items a b;
+        let same : mid.sent ≡ old.sent = omega (arith, first.later, second.later, is.1) in
+        let late = second.unsent (omega (arith, is.0, same), is.1 ∙ sym same) in
+        late ∙ ap (λ t. t ++ b) (first.unsent (is.0, same)) ∙ append_assoc old.text.items a b;
     later = omega (arith, first.later, second.later);
     room = omega (arith, first.room, second.room);
   }
