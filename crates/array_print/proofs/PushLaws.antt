@@ -1,32 +1,33 @@
 -- Texts that are pushed one after another.
-use Rattle.std.proofs.Common.{false, Option, Result, Ok, Err, IsTrue, OnErr, ◌≡◌, ◌≤◌, ℕ, List, [], ◌++◌, vec_capacity, append_assoc, ap, sym, subst, ◌∙◌, arith}
-use Rattle.std.proofs.lemmas.Bool.{false≢true}
+use Rattle.std.proofs.Common.{Option, Result, Ok, Err, OnErr, ◌≡◌, ◌≤◌, ◌+◌, ℕ, List, [], ◌++◌, min, vec_capacity, append_assoc, ap, refl, sym, subst, ◌∙◌, arith}
 use Rattle.array_print.proofs.Words.{Appends, append-nil, appends_nothing, on_err_weaker, on_ok_weaker, part-then, sends-more, Sends, SendsPart}
 use Rattle.array_print.specs.declared.bands.Room.{Room}
 use Rattle.array_print.specs.inside.Pushed.{Held, Pushes}
 
 -- a text that is appended while nothing is sent
-pub held-made : (w : Option (List ℕ)) (text : List ℕ) (old new : Room) → new.text.items ≡ old.text.items ++ text → new.whole ≡ old.whole → vec_capacity old.text ≤ vec_capacity new.text → Held text w w old new
-held-made w text old new made marks grows = record { sends = ([], sym made, appends_nothing w); whole = λ is. (sym marks ∙ is, made); room = grows }
+pub held-made : (w : Option (List ℕ)) (text : List ℕ) (old new : Room) → new.text.items ≡ old.text.items ++ text → new.sent ≡ old.sent → vec_capacity old.text ≤ vec_capacity new.text → Held text w w old new
+held-made w text old new made none grows = record { sends = ([], sym made, appends_nothing w); unsent = λ is. made; later = omega (arith, none); room = grows }
 
--- what is held is sent
-pub held-sent : (w w' : Option (List ℕ)) (old new : Room) → Appends w w' old.text.items → new.text.items ≡ [] → new.whole ≡ false → vec_capacity old.text ≤ vec_capacity new.text → Held [] w w' old new
-held-sent w w' old new gone none mark grows = record {
-  sends = (old.text.items, ap (λ t. old.text.items ++ t) (sym none), gone);
-  whole = λ is. absurd (false≢true (sym mark ∙ is));
+-- a text after which some of it, and what was held before, is sent
+pub held-sent : {w w' : Option (List ℕ)} {text : List ℕ} (gone : List ℕ) (old new : Room) → Appends w w' gone → old.text.items ++ text ≡ gone ++ new.text.items → new.sent ≡ min (old.sent + 1) 18446744073709551615 → old.sent ≤ 18446744073709551615 → vec_capacity old.text ≤ vec_capacity new.text → Held text w w' old new
+held-sent {w} {w'} {text} gone old new sent all counted small grows = record {
+  sends = (gone, all, sent);
+  unsent = λ is. absurd (omega (arith, is.0, is.1, counted));
+  later = omega (arith, counted, small);
   room = grows;
 }
 
 -- nothing is appended
 pub held-none : (w : Option (List ℕ)) (old : Room) → Held [] w w old old
-held-none w old = record { sends = ([], append-nil old.text.items, appends_nothing w); whole = λ is. (is, sym (append-nil old.text.items)); room = omega arith }
+held-none w old = held-made w [] old old (sym (append-nil old.text.items)) refl (omega arith)
 
--- the same, with marks set before and after
-pub held-marked : {text : List ℕ} {w w' : Option (List ℕ)} {marked end : Room} (old new : Room) → Held text w w' marked end → marked.text ≡ old.text → end.text ≡ new.text → (IsTrue new.whole → IsTrue old.whole × IsTrue end.whole) → Held text w w' old new
-held-marked {text} {w} {w'} {marked} {end} old new held before after marks = record {
-  sends = subst (λ t. Sends w w' new.text.items (t.items ++ text)) before (subst (λ t. Sends w w' t.items (marked.text.items ++ text)) after held.sends);
-  whole = λ is. let both = marks is in (both.0, ap (λ t. t.items) (sym after) ∙ (held.whole both.1).1 ∙ ap (λ t. t.items ++ text) before);
-  room = subst (λ t. vec_capacity t ≤ vec_capacity new.text) before (subst (λ t. vec_capacity marked.text ≤ vec_capacity t) after held.room);
+-- the same, with the same text and count after it
+pub held-end : {text : List ℕ} {w w' : Option (List ℕ)} {old mid : Room} (new : Room) → Held text w w' old mid → new.text ≡ mid.text → new.sent ≡ mid.sent → Held text w w' old new
+held-end {text} {w} {w'} {old} {mid} new held same count = record {
+  sends = subst (λ t. Sends w w' t.items (old.text.items ++ text)) (sym same) held.sends;
+  unsent = λ is. ap (λ t. t.items) same ∙ held.unsent (is.0, sym count ∙ is.1);
+  later = omega (arith, held.later, count);
+  room = subst (λ t. vec_capacity old.text ≤ vec_capacity t) (sym same) held.room;
 }
 
 pub held-same : {a b : List ℕ} {w w' : Option (List ℕ)} {old new : Room} → a ≡ b → Held a w w' old new → Held b w w' old new
@@ -40,7 +41,11 @@ module _ {a : List ℕ} {w w1 : Option (List ℕ)} {old mid : Room} (first : Hel
   pub held-more : {b : List ℕ} {w2 : Option (List ℕ)} {new : Room} → Held b w1 w2 mid new → Held (a ++ b) w w2 old new
   held-more {b} {w2} {new} second = record {
     sends = sends-more w w1 w2 old.text.items mid.text.items new.text.items a b first.sends second.sends;
-    whole = λ is. let late = second.whole is in let early = first.whole late.0 in (early.0, late.1 ∙ ap (λ t. t ++ b) early.1 ∙ append_assoc old.text.items a b);
+    unsent = λ is.
+        let same : mid.sent ≡ old.sent = omega (arith, first.later, second.later, is.1) in
+        let late = second.unsent (omega (arith, is.0, same), is.1 ∙ sym same) in
+        late ∙ ap (λ t. t ++ b) (first.unsent (is.0, same)) ∙ append_assoc old.text.items a b;
+    later = omega (arith, first.later, second.later);
     room = omega (arith, first.room, second.room);
   }
 

@@ -1,7 +1,7 @@
 //! A text that is sent while it is made. Of a long one, no more than its room is held.
-ghost use Rattle.std.specs.Prelude.{IfSome, IsTrue, List, OnErr, OnOk, [], drop, false, length, ℕ, ◌∷◌, ◌++◌, ◌<◌, ◌≡◌, ◌≤◌};
+ghost use Rattle.std.specs.Prelude.{IfSome, List, OnErr, OnOk, [], drop, length, ℕ, ◌∷◌, ◌++◌, ◌<◌, ◌≡◌, ◌≤◌};
 ghost use Rattle.array_print.specs.Clauses.{Appends, Memory, WriteOut};
-ghost use Rattle.array_print.specs.inside.Pushed.{Pushes};
+ghost use Rattle.array_print.specs.inside.Pushed.{IsUnsent, Pushes};
 
 use std::alloc::AllocError;
 use std::io::Write;
@@ -59,19 +59,20 @@ pub fn send<W: Write>(writer: &mut W, bytes: &[u8]) -> Result<(), WriteFault>
 #[derive(Drop)]
 pub struct Room {
     pub text: Vec<u8>,
-    /// Whether nothing was sent since a mark.
-    pub whole: bool,
+    /// How often text was sent, up to `u64::MAX`.
+    pub sent: u64,
     /// Room for a text that is repeated.
     pub kept: Vec<u8>,
 }
 
-/// Appends bytes to an empty text. If they are more than its room, they are sent at once.
+/// Sends the text that is held, and appends bytes. If they are more than its room, they are sent too.
 #[inline(never)]
-fn push_first<W: Write>(writer: &mut W, out: &mut Room, bytes: &[u8]) -> Result<(), WriteFault>
-    requires empty { out.old.text.items ≡ [] }
-    requires sent { out.old.whole ≡ false }
+fn push_after<W: Write>(writer: &mut W, out: &mut Room, bytes: &[u8]) -> Result<(), WriteFault>
     ensures { Pushes bytes.now result (W.contents writer.old) (W.contents writer.new) out.old out.new }
 {
+    out.sent = out.sent.saturating_add(1);
+    send(writer, out.text.as_slice())?;
+    out.text.clear();
     if out.text.capacity() < bytes.len() {
         return send(writer, bytes);
     }
@@ -85,14 +86,11 @@ fn push_first<W: Write>(writer: &mut W, out: &mut Room, bytes: &[u8]) -> Result<
 pub fn push<W: Write>(writer: &mut W, out: &mut Room, bytes: &[u8]) -> Result<(), WriteFault>
     ensures { Pushes bytes.now result (W.contents writer.old) (W.contents writer.new) out.old out.new }
 {
-    if out.text.capacity().saturating_sub(out.text.len()) >= bytes.len() {
+    if out.text.capacity() - out.text.len() >= bytes.len() {
         out.text.extend_from_slice(bytes).unwrap();
         return Ok(());
     }
-    out.whole = false;
-    send(writer, out.text.as_slice())?;
-    out.text.clear();
-    push_first(writer, out, bytes)
+    push_after(writer, out, bytes)
 }
 
 /// Appends a byte.
@@ -105,19 +103,21 @@ pub fn push_byte<W: Write>(writer: &mut W, out: &mut Room, byte: u8) -> Result<(
         out.text.push(byte).unwrap();
         return Ok(());
     }
-    push(writer, out, &[byte])
+    push_after(writer, out, &[byte])
 }
 
 impl Room {
-    /// The text from `from` on, if nothing was sent since a mark, and there is room to keep it.
-    pub fn keep(&mut self, from: usize) -> Option<Vec<u8>>
-        requires { IsTrue self.old.whole → from ≤ length self.old.text.items }
-        ensures kept { IfSome result (λ kept. IsTrue self.old.whole
+    /// The text from `from` on, if nothing was sent since text was sent `sent` times, and there is
+    /// room to keep it.
+    pub fn keep(&mut self, from: usize, sent: u64) -> Option<Vec<u8>>
+        requires { IsUnsent sent self.old.sent → from ≤ length self.old.text.items }
+        ensures kept { IfSome result (λ kept. IsUnsent sent self.old.sent
             × (kept.items ≡ drop from self.old.text.items)) }
         ensures text { self.new.text ≡ self.old.text }
-        ensures whole { self.new.whole ≡ self.old.whole }
+        ensures sent { self.new.sent ≡ self.old.sent }
     {
-        if !self.whole || self.kept.capacity() < self.text.len() - from {
+        let unsent = sent < u64::MAX && self.sent == sent;
+        if !unsent || self.kept.capacity() < self.text.len() - from {
             return None;
         }
         let empty = Vec::new(*self.kept.allocator());
@@ -131,7 +131,7 @@ impl Room {
     /// Takes back room in which a text was kept.
     pub fn give_back(&mut self, kept: Option<Vec<u8>>)
         ensures text { self.new.text ≡ self.old.text }
-        ensures whole { self.new.whole ≡ self.old.whole }
+        ensures sent { self.new.sent ≡ self.old.sent }
     {
         if let Some(kept) = kept {
             self.kept = kept;

@@ -79,6 +79,7 @@ fn push_separator<W: Write>(
 }
 
 /// Appends a text, padded on the left to a width.
+#[inline(always)]
 pub fn push_padded<W: Write>(
     writer: &mut W,
     out: &mut Room,
@@ -100,9 +101,17 @@ pub fn comma(k: usize) -> &'static [u8]
     if k == 0 { b"" } else { b", " }
 }
 
-/// What follows the values of a record that has `values` of them.
-pub fn record_end(values: usize) -> &'static [u8]
-    ensures { result.now ≡ record_end values }
+/// Appends what follows the values of a record that has `values` of them.
+pub fn push_record_end<W: Write>(
+    writer: &mut W,
+    out: &mut Room,
+    values: usize,
+) -> Result<(), WriteFault>
+    ensures { Pushes (record_end values) result (W.contents writer.old) (W.contents writer.new)
+        out.old out.new }
 {
-    if values == 1 { b",)" } else { b")" }
+    if values == 1 {
+        return push(writer, out, b",)");
+    }
+    push_byte(writer, out, b')')
 }

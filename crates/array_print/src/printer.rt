@@ -8,8 +8,8 @@ ghost use Rattle.array_print.specs.inside.Parts.{LeadsOn};
 ghost use Rattle.array_print.specs.inside.Pushed.{Pushes};
 
 use crate::axes::{past_ones, repeats, step_along};
-use crate::bands::{PrintFault, Room, WriteFault, push};
-use crate::padding::{comma, push_few, push_lead, record_end};
+use crate::bands::{PrintFault, Room, WriteFault, push, push_byte};
+use crate::padding::{comma, push_few, push_lead, push_record_end};
 use crate::tuning::{LONG_ROOM, ROOM, SHORT_ITEM};
 use crate::values::push_value;
 use crate::widths::widths_of;
@@ -40,16 +40,16 @@ pub struct Item<'a> {
 fn push_leaf<W: Write>(
     writer: &mut W,
     out: &mut Room,
-    item: Item<'_>,
+    item: &Item<'_>,
     k: usize,
 ) -> Result<(), WriteFault>
-    requires leaf { k < length (leaves_of item.items.descr.now) }
+    requires leaf { k < length (leaves_of item.now.items.descr.now) }
     requires few { k ≤ 2048 }
-    requires item { IsItemAt item.items item.offset }
-    ensures { Pushes (get_or (value_texts item.entry.items item.entry.offset) k []) result
+    requires item { IsItemAt item.now.items item.now.offset }
+    ensures { Pushes (get_or (value_texts item.now.items item.now.offset) k []) result
         (W.contents writer.old) (W.contents writer.new) out.old out.new }
 {
-    let items = item.items;
+    let items = &item.items;
     let (scalar, at) = items.descr.leaf_at(k);
     let place = item.offset + at;
     let bytes = &items.block[place..place + scalar.size()];
@@ -62,15 +62,15 @@ fn push_leaf<W: Write>(
 fn push_field<W: Write>(
     writer: &mut W,
     out: &mut Room,
-    item: Item<'_>,
+    item: &Item<'_>,
     descr: &Descr,
     k: usize,
 ) -> Result<usize, WriteFault>
-    requires leaves { k + length (leaves_of descr.now) ≤ length (leaves_of item.items.descr.now) }
-    requires few { length (leaves_of item.items.descr.now) ≤ 2048 }
-    requires item { IsItemAt item.items item.offset }
+    requires leaves { k + length (leaves_of descr.now) ≤ length (leaves_of item.now.items.descr.now) }
+    requires few { length (leaves_of item.now.items.descr.now) ≤ 2048 }
+    requires item { IsItemAt item.now.items item.now.offset }
     ensures text { Pushes
-        (structure_text descr.now (drop k (value_texts item.entry.items item.entry.offset)))
+        (structure_text descr.now (drop k (value_texts item.now.items item.now.offset)))
         result (W.contents writer.old) (W.contents writer.new) out.old out.new }
     ensures next { IfOk result (λ next. next ≡ k + length (leaves_of descr.now)) }
 {
@@ -89,33 +89,33 @@ fn push_field<W: Write>(
 fn push_record<W: Write>(
     writer: &mut W,
     out: &mut Room,
-    item: Item<'_>,
+    item: &Item<'_>,
     fields: &[Field],
     k: usize,
 ) -> Result<usize, WriteFault>
     requires leaves { k + leaf_count (listed fields.now)
-        ≤ length (leaves_of item.items.descr.now) }
-    requires few { length (leaves_of item.items.descr.now) ≤ 2048 }
-    requires item { IsItemAt item.items item.offset }
+        ≤ length (leaves_of item.now.items.descr.now) }
+    requires few { length (leaves_of item.now.items.descr.now) ≤ 2048 }
+    requires item { IsItemAt item.now.items item.now.offset }
     ensures text { Pushes (in_parentheses (field_texts (listed fields.now)
-        (drop k (value_texts item.entry.items item.entry.offset))))
+        (drop k (value_texts item.now.items item.now.offset))))
         result (W.contents writer.old) (W.contents writer.new) out.old out.new }
     ensures next { IfOk result (λ next. next ≡ k + leaf_count (listed fields.now)) }
 {
     let mut leaf = k;
-    push(writer, out, b"(")?;
+    push_byte(writer, out, b'(')?;
     for (i, field) in fields.iter().enumerate() {
         push(writer, out, comma(i))?;
         leaf = push_field(writer, out, item, &field.descr, leaf)?;
     }
-    push(writer, out, record_end(fields.len()))?;
+    push_record_end(writer, out, fields.len())?;
     Ok(leaf)
 }
 
 /// Appends the text of one item.
-fn push_item<W: Write>(writer: &mut W, out: &mut Room, item: Item<'_>) -> Result<(), WriteFault>
-    requires { IsItemAt item.items item.offset }
-    ensures { Pushes (text_at item.entry.items item.entry.offset) result
+fn push_item<W: Write>(writer: &mut W, out: &mut Room, item: &Item<'_>) -> Result<(), WriteFault>
+    requires { IsItemAt item.now.items item.now.offset }
+    ensures { Pushes (text_at item.now.items item.now.offset) result
         (W.contents writer.old) (W.contents writer.new) out.old out.new }
 {
     let descr = item.items.descr;
@@ -147,11 +147,11 @@ fn push_block<W: Write>(
     }
     if axis == lengths.len() {
         let items = *items;
-        return push_item(writer, out, Item { items, offset });
+        return push_item(writer, out, &Item { items, offset });
     }
     let strides = items.layout.strides.as_slice();
     let mut kept: Option<Vec<u8>> = None;
-    push(writer, out, b"[")?;
+    push_byte(writer, out, b'[')?;
     for k in 0..lengths[axis] {
         push_lead(writer, out, k, axis, lengths.len() - axis - 1)?;
         if let Some(text) = &kept {
@@ -159,17 +159,15 @@ fn push_block<W: Write>(
             continue;
         }
         let from = out.text.len();
-        let before = out.whole;
-        out.whole = true;
+        let sent = out.sent;
         let block = step_along(offset, strides, axis, k);
         push_block(writer, out, items, axis + 1, block)?;
         if repeats(strides, axis) {
-            kept = out.keep(from);
+            kept = out.keep(from, sent);
         }
-        out.whole = before && out.whole;
     }
     out.give_back(kept);
-    push(writer, out, b"]")
+    push_byte(writer, out, b']')
 }
 
 /// The room for a text.
@@ -226,7 +224,7 @@ pub fn print_by_bands<W: Write>(
     let empty = Vec::new(*out.allocator());
     let mut room = Room {
         text: replace(out, empty),
-        whole: true,
+        sent: 0,
         kept,
     };
     let printed = push_block(writer, &mut room, &items, 0, layout.offset);

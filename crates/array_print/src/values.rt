@@ -60,7 +60,7 @@ fn push_byte_string<W: Write>(
     for byte in without_nuls(bytes) {
         push_escaped(writer, out, *byte)?;
     }
-    push(writer, out, b"'")
+    push_byte(writer, out, b'\'')
 }
 
 /// Appends the text of a value, padded on the left to a width.

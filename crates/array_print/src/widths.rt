@@ -81,14 +81,14 @@ struct ShownItems<'a> {
 
 /// Widens the widths for the items that the axes from `axis` on lead to, starting at an offset.
 /// Items that stride 0 repeats are measured once.
-fn widen_part(widths: &mut [usize], items: ShownItems<'_>, axis: usize, offset: usize)
-    requires leaves { length widths.old ≡ length (leaves_of items.descr.now) }
-    requires part { IsPart items.layout.now axis offset (length items.block.now)
-        (item_size items.descr.now) }
+fn widen_part(widths: &mut [usize], items: &ShownItems<'_>, axis: usize, offset: usize)
+    requires leaves { length widths.old ≡ length (leaves_of items.now.descr.now) }
+    requires part { IsPart items.now.layout.now axis offset (length items.now.block.now)
+        (item_size items.now.descr.now) }
     ensures { (seen : List ℕ) → widths.old
-        ≡ widths_at items.entry.descr.now items.entry.block.now seen
-        → widths.new ≡ widths_at items.entry.descr.now items.entry.block.now
-        (seen ++ part_offsets items.entry.layout.now axis offset) }
+        ≡ widths_at items.now.descr.now items.now.block.now seen
+        → widths.new ≡ widths_at items.now.descr.now items.now.block.now
+        (seen ++ part_offsets items.now.layout.now axis offset) }
 {
     let lengths = items.layout.shape.as_slice();
     let next = past_ones(lengths, axis);
@@ -139,7 +139,7 @@ pub fn widths_of(
             layout,
             descr,
         };
-        widen_part(widths.as_mut_slice(), items, 0, layout.offset);
+        widen_part(widths.as_mut_slice(), &items, 0, layout.offset);
     }
     Ok(widths)
 }

@@ -1,12 +1,17 @@
 -- Texts that are appended to what is held.
-use Rattle.std.specs.Prelude.{◌≡◌, ◌≤◌, ◌++◌, ℕ, IsTrue, List, OnErr, OnOk, Option, Result, vec_capacity}
+use Rattle.std.specs.Prelude.{◌≡◌, ◌<◌, ◌≤◌, ◌++◌, ℕ, List, OnErr, OnOk, Option, Result, vec_capacity}
 use Rattle.array_print.specs.Sending.{Sends, SendsPart}
 use Rattle.array_print.specs.declared.bands.Room.{Room}
 
--- The text was appended, and a first part of what is held by then may be sent. If nothing was since a mark, all is held.
+-- Nothing was sent between two counts of how often text was sent. The greatest count says nothing.
+abbrev pub IsUnsent : ℕ → ℕ → Type 0
+IsUnsent before after = (before < 18446744073709551615) × (after ≡ before)
+
+-- The text was appended, and a first part of what is held by then may be sent. If nothing was, all is held.
 pub record Held (text : List ℕ) (written written' : Option (List ℕ)) (old new : Room) : Type 0 where
   pub sends : Sends written written' new.text.items (old.text.items ++ text)
-  pub whole : IsTrue new.whole → IsTrue old.whole × (new.text.items ≡ old.text.items ++ text)
+  pub unsent : IsUnsent old.sent new.sent → new.text.items ≡ old.text.items ++ text
+  pub later : old.sent ≤ new.sent
   pub room : vec_capacity old.text ≤ vec_capacity new.text
 
 -- The text was appended. After a fault, a part was sent.

@@ -29,7 +29,7 @@ first-left (text ∷ texts) (suc k) = first-left texts k
 
 pub push_field-returns-in_err-push_leaf-in-Scalar-clause-text : goal.push_field-returns-in_err-push_leaf-in-Scalar-clause-text
 push_field-returns-in_err-push_leaf-in-Scalar-clause-text g t c =
-    let texts = texts_at c.args.item.items.descr.now c.args.item.items.widths.now c.args.item.items.block.now c.args.item.offset in
+    let texts = texts_at c.args.item.now.items.descr.now c.args.item.now.items.widths.now c.args.item.now.items.block.now c.args.item.now.offset in
     let text = first-left texts c.args.k ∙ sym (ap (λ d. structure_text d (drop c.args.k texts)) c.in-Scalar.is) in
     record {
       ok = search rules;
@@ -39,7 +39,7 @@ push_field-returns-in_err-push_leaf-in-Scalar-clause-text g t c =
 
 pub push_field-returns-in-Record-clause-text : goal.push_field-returns-in-Record-clause-text
 push_field-returns-in-Record-clause-text g t c =
-    let texts = drop c.args.k (texts_at c.args.item.items.descr.now c.args.item.items.widths.now c.args.item.items.block.now c.args.item.offset) in
+    let texts = drop c.args.k (texts_at c.args.item.now.items.descr.now c.args.item.now.items.widths.now c.args.item.now.items.block.now c.args.item.now.offset) in
     pushes-same (field-text c.args.descr.now c.in-Record.inner c.fields.result.now texts c.in-Record.is c.fields.ensures.value) c.push_record.ensures.text
 
 pub push_field-returns-in-Record-clause-next : goal.push_field-returns-in-Record-clause-next
@@ -72,65 +72,63 @@ parted texts later i text below is =
     let all = sym (rest_at texts (get_or texts i []) i below (get_or_default texts i [] _ below)) ∙ is in
     (ap first_text all, ap (drop 1) all)
 
+pub push_record-returns-in_err-push_byte-clause-text : goal.push_record-returns-in_err-push_byte-clause-text
+push_record-returns-in_err-push_byte-clause-text g t c =
+    let leaves = texts_at c.args.item.now.items.descr.now c.args.item.now.items.widths.now c.args.item.now.items.block.now c.args.item.now.offset in
+    let texts = field_texts (listed c.args.fields.now) (drop c.args.k leaves) in
+    record { ok = search rules; err = failed _ (cut texts _ _ c.args.out.now.text.items 0 (omega arith) c.in_err-push_byte.ensures.err); room = omega arith }
+
 pub push_record-returns-in_err-push-clause-text : goal.push_record-returns-in_err-push-clause-text
 push_record-returns-in_err-push-clause-text g t c =
-    let leaves = texts_at c.args.item.items.descr.now c.args.item.items.widths.now c.args.item.items.block.now c.args.item.offset in
-    let texts = field_texts (listed c.args.fields.now) (drop c.args.k leaves) in
-    record { ok = search rules; err = failed _ (cut texts _ _ c.args.out.now.text.items 0 (omega arith) c.in_err-push.ensures.err); room = omega arith }
-
-pub push_record-returns-in_err-push-2-clause-text : goal.push_record-returns-in_err-push-2-clause-text
-push_record-returns-in_err-push-2-clause-text g t c =
-    let leaves = texts_at c.args.item.items.descr.now c.args.item.items.widths.now c.args.item.items.block.now c.args.item.offset in
+    let leaves = texts_at c.args.item.now.items.descr.now c.args.item.now.items.widths.now c.args.item.now.items.block.now c.args.item.now.offset in
     let texts = field_texts (listed c.args.fields.now) (drop c.args.k leaves) in
     let field = c.index-fields-i.result in
     let below : c.loop-i.i < length texts = omega (arith, c.loop-i-test.true, length-field_texts c.args.fields.now (drop c.args.k leaves)) in
-    let led = subst (λ t. SendsPart (g.W.Write.contents c.loop-i.writer) (g.W.Write.contents c.push-in-loop-i.new.writer) (c.loop-i.out.text.items ++ t)) c.comma.ensures c.in_err-push-2.ensures.err in
+    let led = subst (λ t. SendsPart (g.W.Write.contents c.loop-i.writer) (g.W.Write.contents c.push.new.writer) (c.loop-i.out.text.items ++ t)) c.comma.ensures c.in_err-push.ensures.err in
     record { ok = search rules; err = failed _ (cut-before texts c.loop-i.i below c.loop-i.invariant.sent _ led); room = omega arith }
 
 pub push_record-returns-in_err-leaf-clause-text : goal.push_record-returns-in_err-leaf-clause-text
 push_record-returns-in_err-leaf-clause-text g t c =
-    let leaves = texts_at c.args.item.items.descr.now c.args.item.items.widths.now c.args.item.items.block.now c.args.item.offset in
+    let leaves = texts_at c.args.item.now.items.descr.now c.args.item.now.items.widths.now c.args.item.now.items.block.now c.args.item.now.offset in
     let texts = field_texts (listed c.args.fields.now) (drop c.args.k leaves) in
     let field = c.index-fields-i.result in
     let below : c.loop-i.i < length texts = omega (arith, c.loop-i-test.true, length-field_texts c.args.fields.now (drop c.args.k leaves)) in
     let parts = parted texts _ c.loop-i.i _ below (unread-more c.args.fields.now field c.loop-i.i c.loop-i.leaf texts leaves c.loop-i-test.true c.index-fields-i.is c.loop-i.invariant.unread) in
-    let led = held-same c.comma.ensures c.in_ok-push-2.ensures.ok in
+    let led = held-same c.comma.ensures c.in_ok-push.ensures.ok in
     record { ok = search rules; err = failed _ (cut-within texts c.loop-i.i below c.loop-i.invariant.sent _ led parts.0 _ c.in_err-leaf.ensures.text.err); room = omega arith }
 
 pub push_record-loop-i-preserved : goal.push_record-loop-i-preserved
 push_record-loop-i-preserved g t c =
-    let leaves = texts_at c.args.item.items.descr.now c.args.item.items.widths.now c.args.item.items.block.now c.args.item.offset in
+    let leaves = texts_at c.args.item.now.items.descr.now c.args.item.now.items.widths.now c.args.item.now.items.block.now c.args.item.now.offset in
     let texts = field_texts (listed c.args.fields.now) (drop c.args.k leaves) in
     let field = c.index-fields-i.result in
     let below : c.loop-i.i < length texts = omega (arith, c.loop-i-test.true, length-field_texts c.args.fields.now (drop c.args.k leaves)) in
     let here = left c.args.fields.now field c.loop-i.i c.loop-i-test.true c.index-fields-i.is in
     let parts = parted texts _ c.loop-i.i _ below (unread-more c.args.fields.now field c.loop-i.i c.loop-i.leaf texts leaves c.loop-i-test.true c.index-fields-i.is c.loop-i.invariant.unread) in
     let next = c.in_ok-leaf.ensures.next in
-    let led = held-same c.comma.ensures c.in_ok-push-2.ensures.ok in
+    let led = held-same c.comma.ensures c.in_ok-push.ensures.ok in
     record {
       sent = sent-more texts c.loop-i.i below c.loop-i.invariant.sent _ led parts.0 c.in_ok-leaf.ensures.text.ok;
       unread = parts.1 ∙ ap (λ n. field_texts (listed (drop (c.loop-i.i + 1) c.args.fields.now)) (drop n leaves)) (sym next);
       count = omega (arith, here, next, c.loop-i.invariant.count);
     }
 
-pub push_record-returns-in_err-push-3-clause-text : goal.push_record-returns-in_err-push-3-clause-text
-push_record-returns-in_err-push-3-clause-text g t c =
-    let leaves = texts_at c.args.item.items.descr.now c.args.item.items.widths.now c.args.item.items.block.now c.args.item.offset in
+pub push_record-returns-in_err-push_record_end-clause-text : goal.push_record-returns-in_err-push_record_end-clause-text
+push_record-returns-in_err-push_record_end-clause-text g t c =
+    let leaves = texts_at c.args.item.now.items.descr.now c.args.item.now.items.widths.now c.args.item.now.items.block.now c.args.item.now.offset in
     let texts = field_texts (listed c.args.fields.now) (drop c.args.k leaves) in
     let many = length-field_texts c.args.fields.now (drop c.args.k leaves) in
     let whole = whole-record texts c.loop-i.i (length c.args.fields.now) (omega (arith, many, c.loop-i-test.false, c.loop-i.auto.i-end)) (omega (arith, many)) in
-    let end = subst (λ t. SendsPart (g.W.Write.contents c.loop-i.writer) (g.W.Write.contents c.push-2.new.writer) (c.loop-i.out.text.items ++ t)) c.record_end.ensures c.in_err-push-3.ensures.err in
     record {
       ok = search rules;
-      err = failed _ (subst (λ t. SendsPart (g.W.Write.contents c.args.writer.now) (g.W.Write.contents c.push-2.new.writer) (c.args.out.now.text.items ++ t)) whole (part-after c.loop-i.invariant.sent _ _ end));
+      err = failed _ (subst (λ t. SendsPart (g.W.Write.contents c.args.writer.now) (g.W.Write.contents c.push_record_end.new.writer) (c.args.out.now.text.items ++ t)) whole (part-after c.loop-i.invariant.sent _ _ c.in_err-push_record_end.ensures.err));
       room = omega arith;
     }
 
 pub push_record-returns-clause-text : goal.push_record-returns-clause-text
 push_record-returns-clause-text g t c =
-    let leaves = texts_at c.args.item.items.descr.now c.args.item.items.widths.now c.args.item.items.block.now c.args.item.offset in
+    let leaves = texts_at c.args.item.now.items.descr.now c.args.item.now.items.widths.now c.args.item.now.items.block.now c.args.item.now.offset in
     let texts = field_texts (listed c.args.fields.now) (drop c.args.k leaves) in
     let many = length-field_texts c.args.fields.now (drop c.args.k leaves) in
     let whole = whole-record texts c.loop-i.i (length c.args.fields.now) (omega (arith, many, c.loop-i-test.false, c.loop-i.auto.i-end)) (omega (arith, many)) in
-    let end = held-same c.record_end.ensures c.in_ok-push-3.ensures.ok in
-    record { ok = held-same whole (held-more c.loop-i.invariant.sent end); err = search rules; room = omega arith }
+    record { ok = held-same whole (held-more c.loop-i.invariant.sent c.in_ok-push_record_end.ensures.ok); err = search rules; room = omega arith }

@@ -1,16 +1,14 @@
-use Rattle.std.proofs.Common.{IfSome, IsTrue, Vec, refl, ◌≡◌, ◌+◌, ◌-◌, ◌<◌, ◌≤◌, ◌++◌, ◌∷◌, [], ℕ, pos, ◌+ℤ◌, ◌*ℤ◌, get_or, length, map, drop, replicate, subst, sym, ap, ◌∙◌, arith, rules}
+use Rattle.std.proofs.Common.{IfSome, Vec, ◌≡◌, ◌+◌, ◌-◌, ◌<◌, ◌≤◌, ◌++◌, ◌∷◌, [], ℕ, pos, ◌+ℤ◌, ◌*ℤ◌, get_or, length, map, drop, replicate, subst, sym, ap, ◌∙◌, arith, rules}
 use Rattle.array_print.proofs.Words.{Global, block_text, drop_all, drop_at, item_size, part_offsets, shown, part-longer, SendsPart}
-use Rattle.std.proofs.lemmas.Bool.{false≢true}
 use Rattle.std.proofs.lemmas.Option.{IfSome_then}
-use Rattle.array_print.specs.declared.bands.Room.{Room}
 use Rattle.array_print.proofs.PrintLaws.{opened-end}
-use Rattle.array_print.proofs.PushLaws.{failed, held-more, held-marked, held-same, part-after, pushes-same}
+use Rattle.array_print.proofs.PushLaws.{failed, held-more, held-end, held-same, part-after, pushes-same}
 use Rattle.array_print.proofs.PushLaws as pushed
 use Rattle.array_print.proofs.BandLaws.{cut, cut-before, cut-within, sent-more}
 use Rattle.array_print.proofs.OneLaws.{ones-part, ones-text}
 use Rattle.array_print.proofs.PartLaws.{stays, part-leads, part-inner, part-item, part-item-inside}
 use Rattle.array_print.proofs.printer.+push_block.Goals as goal
-use Rattle.array_print.proofs.printer.+push_block.Goals.{then-repeats, else-repeats, then-before, else-before}
+use Rattle.array_print.proofs.printer.+push_block.Goals.{then-repeats, else-repeats}
 
 -- the axes that are passed over have length 1
 pub push_block-requires : goal.push_block-requires
@@ -88,11 +86,11 @@ returns-in_err-push_block g t c =
       room = omega arith;
     }
 
-pub returns-in_err-push : goal.returns-in_err-push
-returns-in_err-push g t c =
+pub returns-in_err-push_byte : goal.returns-in_err-push_byte
+returns-in_err-push_byte g t c =
     let l = c.args.items.now.layout.now in
     let below : c.args.axis < length l.shape = omega (arith, c.if-axis-lengths.false, ap length c.as_slice-lengths.ensures.value, c.requires.part.axes) in
-    record { ok = search rules; err = failed _ (cut _ l c.args.axis c.args.offset below _ _ c.args.out.now.text.items 0 (omega arith) c.in_err-push.ensures.err); room = omega arith }
+    record { ok = search rules; err = failed _ (cut _ l c.args.axis c.args.offset below _ _ c.args.out.now.text.items 0 (omega arith) c.in_err-push_byte.ensures.err); room = omega arith }
 
 pub returns-in_err-push_lead : goal.returns-in_err-push_lead
 returns-in_err-push_lead g t c =
@@ -118,13 +116,13 @@ returns-in_err-push_block-2 g t c =
     }
 
 -- the text that is kept is that of this block
-pub returns-in_err-push-2 : goal.returns-in_err-push-2
-returns-in_err-push-2 g t c =
+pub returns-in_err-push : goal.returns-in_err-push
+returns-in_err-push g t c =
     let l = c.args.items.now.layout.now in
     let below : c.args.axis < length l.shape = omega (arith, c.if-axis-lengths.false, ap length c.as_slice-lengths.ensures.value, c.requires.part.axes) in
     let low : c.loop-k.k < get_or l.shape c.args.axis 0 = omega (arith, c.loop-k-test.true, c.loop-k.auto.k-end, ap (λ s. get_or s c.args.axis 0) c.as_slice-lengths.ensures.value) in
     let same = rw c.in-Some.is at c.loop-k.invariant.same in
-    let fault = subst (λ t. SendsPart (g.W.Write.contents c.push_lead.new.writer) (g.W.Write.contents c.push-in-Some.new.writer) (c.push_lead.new.out.text.items ++ t)) (c.as_slice.ensures.value ∙ same.1) c.in_err-push-2.ensures.err in
+    let fault = subst (λ t. SendsPart (g.W.Write.contents c.push_lead.new.writer) (g.W.Write.contents c.push.new.writer) (c.push_lead.new.out.text.items ++ t)) (c.as_slice.ensures.value ∙ same.1) c.in_err-push.ensures.err in
     record {
       ok = search rules;
       err = failed _ (cut-within _ l c.args.axis c.args.offset below c.loop-k.k _ low c.as_slice-lengths.ensures.value c.loop-k.invariant.sent c.args.offset _ _ c.requires.part (stays _ c.args.offset c.loop-k.k same.0) _ (part-after c.in_ok-push_lead.ensures.ok _ _ fault));
@@ -139,7 +137,7 @@ loop-k-preserved-in-Some g t c =
     let same = rw c.in-Some.is at c.loop-k.invariant.same in
     record {
       sent = sent-more _ l c.args.axis c.args.offset below c.loop-k.k _ low c.as_slice-lengths.ensures.value c.loop-k.invariant.sent c.args.offset _ _ c.requires.part (stays _ c.args.offset c.loop-k.k same.0)
-          (held-more c.in_ok-push_lead.ensures.ok (held-same (c.as_slice.ensures.value ∙ same.1) c.in_ok-push-2.ensures.ok));
+          (held-more c.in_ok-push_lead.ensures.ok (held-same (c.as_slice.ensures.value ∙ same.1) c.in_ok-push.ensures.ok));
       same = c.loop-k.invariant.same;
     }
 
@@ -151,23 +149,20 @@ loop-k-preserved g t c =
     let is : pos c.step_along-block.result ≡ pos c.args.offset +ℤ get_or l.strides c.args.axis (pos 0) *ℤ pos c.loop-k.k = c.step_along-block.ensures ∙ ap (λ s. pos c.args.offset +ℤ get_or s c.args.axis (pos 0) *ℤ pos c.loop-k.k) c.as_slice-strides.ensures in
     let led = c.push_lead.new.out in
     let made = c.push_block-in-loop-k.new.out in
-    let new : Room = record { text = c.if-repeats.out.text; whole = c.if-before.out; kept = c.if-repeats.out.kept } in
     let text-is : c.if-repeats.out.text ≡ made.text = elim c.if-repeats.branch [ then-repeats w ↦ ap (λ o. o.text) w.out-is ∙ w.keep-kept.ensures.text | else-repeats w ↦ ap (λ o. o.text) w.out-is ] in
-    let whole-is : c.if-repeats.out.whole ≡ made.whole = elim c.if-repeats.branch [ then-repeats w ↦ ap (λ o. o.whole) w.out-is ∙ w.keep-kept.ensures.whole | else-repeats w ↦ ap (λ o. o.whole) w.out-is ] in
-    let marks : IsTrue c.if-before.out → IsTrue led.whole × IsTrue made.whole =
-    λ is. elim c.if-before.branch [ then-before w ↦ (w.if-before.true, sym whole-is ∙ sym w.out-is ∙ is) | else-before w ↦ absurd (false≢true (sym w.if-before.false ∙ (sym w.out-is ∙ is))) ] in
+    let sent-is : c.if-repeats.out.sent ≡ made.sent = elim c.if-repeats.branch [ then-repeats w ↦ ap (λ o. o.sent) w.out-is ∙ w.keep-kept.ensures.sent | else-repeats w ↦ ap (λ o. o.sent) w.out-is ] in
     let text = λ (n : ℕ). block_text (c.args.axis + 1) (drop (c.args.axis + 1) l.shape) (map (shown c.args.items.now.descr.now c.args.items.now.widths.now c.args.items.now.block.now) (part_offsets l (c.args.axis + 1) n)) in
     let Same = λ (kept : Vec ℕ Global). (get_or l.strides c.args.axis (pos 0) ≡ pos 0) × (kept.items ≡ text c.args.offset) in
     record {
       sent = sent-more _ l c.args.axis c.args.offset below c.loop-k.k _ low c.as_slice-lengths.ensures.value c.loop-k.invariant.sent c.step_along-block.result _ _ c.requires.part is
-          (held-more c.in_ok-push_lead.ensures.ok (held-marked led new c.in_ok-push_block-2.ensures.ok refl (sym text-is) marks));
+          (held-more c.in_ok-push_lead.ensures.ok (held-end c.if-repeats.out c.in_ok-push_block-2.ensures.ok text-is sent-is));
       same = elim c.if-repeats.branch [
         | then-repeats w ↦
             let none : get_or l.strides c.args.axis (pos 0) ≡ pos 0 = ap (λ s. get_or s c.args.axis (pos 0)) (sym c.as_slice-strides.ensures) ∙ c.repeats.ensures.0 w.if-repeats.true in
             let at : pos c.step_along-block.result ≡ pos c.args.offset = is ∙ sym (stays (get_or l.strides c.args.axis (pos 0)) c.args.offset c.loop-k.k none) in
             let here : c.step_along-block.result ≡ c.args.offset = cc in
             subst (λ o. IfSome o Same) (sym w.kept-is) (IfSome_then w.keep-kept.result w.keep-kept.ensures.kept
-            (λ kept keeps. (none, keeps.1 ∙ ap (drop c.len-from.result) (c.in_ok-push_block-2.ensures.ok.whole keeps.0).1 ∙ drop_at led.text.items (text c.step_along-block.result) c.len-from.result (omega (arith, c.len-from.ensures)) ∙ ap text here)))
+            (λ kept keeps. (none, keeps.1 ∙ ap (drop c.len-from.result) (c.in_ok-push_block-2.ensures.ok.unsent keeps.0) ∙ drop_at led.text.items (text c.step_along-block.result) c.len-from.result (omega (arith, c.len-from.ensures)) ∙ ap text here)))
         | else-repeats w ↦ subst (λ o. IfSome o Same) (sym w.kept-is) c.loop-k.invariant.same
       ];
     }
@@ -180,7 +175,7 @@ returns g t c =
     let below : c.args.axis < length l.shape = omega (arith, c.if-axis-lengths.false, ap length c.as_slice-lengths.ensures.value, c.requires.part.axes) in
     let all : c.loop-k.k ≡ get_or l.shape c.args.axis 0 = omega (arith, c.loop-k-test.false, c.loop-k.auto.k-end, ap (λ s. get_or s c.args.axis 0) c.as_slice-lengths.ensures.value) in
     pushes-same (opened-end f l.shape c.args.axis c.loop-k.k offsets below all)
-    (pushed.then (held-marked c.args.out.now c.give_back.new.self c.loop-k.invariant.sent refl (sym c.give_back.ensures.text) (λ is. let e = sym c.give_back.ensures.whole ∙ is in ((c.loop-k.invariant.sent.whole e).0, e))) c.push-2.ensures)
+    (pushed.then (held-end c.give_back.new.self c.loop-k.invariant.sent c.give_back.ensures.text c.give_back.ensures.sent) c.push_byte-2.ensures)
 
 pub returns-then-axis-lengths : goal.returns-then-axis-lengths
 returns-then-axis-lengths g t c =

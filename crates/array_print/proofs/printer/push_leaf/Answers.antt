@@ -12,13 +12,13 @@ leaf-text descr ws block offset k at wide scalar are below is fits whole =
     ∙ sym (text-at (leaves_of descr) ws (take (item_size descr) (drop offset block)) k scalar at are below is)
 
 pub bounds-items-k : goal.bounds-items-k
-bounds-items-k g c = omega (arith, count-widths (leaves_of c.args.item.items.descr.now) c.args.item.items.widths.now c.requires.item.widths, c.requires.leaf)
+bounds-items-k g c = omega (arith, count-widths (leaves_of c.args.item.now.items.descr.now) c.args.item.now.items.widths.now c.requires.item.widths, c.requires.leaf)
 
 pub push_value-requires-clause-width : goal.push_value-requires-clause-width
 push_value-requires-clause-width g c =
-    width-at (leaves_of c.args.item.items.descr.now) c.args.item.items.widths.now c.args.k c.leaf_at-scalar.result.0 c.leaf_at-scalar.result.1 c.requires.item.widths c.requires.leaf c.leaf_at-scalar.ensures.leaf
+    width-at (leaves_of c.args.item.now.items.descr.now) c.args.item.now.items.widths.now c.args.k c.leaf_at-scalar.result.0 c.leaf_at-scalar.result.1 c.requires.item.widths c.requires.leaf c.leaf_at-scalar.ensures.leaf
 
 pub returns : goal.returns
 returns g c =
-    let text = leaf-text c.args.item.items.descr.now c.args.item.items.widths.now c.args.item.items.block.now c.args.item.offset c.args.k c.leaf_at-scalar.result.1 _ c.leaf_at-scalar.result.0 c.requires.item.widths c.requires.leaf c.leaf_at-scalar.ensures.leaf c.leaf_at-scalar.ensures.within (omega (arith, c.size.ensures.value)) in
+    let text = leaf-text c.args.item.now.items.descr.now c.args.item.now.items.widths.now c.args.item.now.items.block.now c.args.item.now.offset c.args.k c.leaf_at-scalar.result.1 _ c.leaf_at-scalar.result.0 c.requires.item.widths c.requires.leaf c.leaf_at-scalar.ensures.leaf c.leaf_at-scalar.ensures.within (omega (arith, c.size.ensures.value)) in
     pushes-same text c.push_value.ensures

@@ -51,4 +51,4 @@ pub returns : goal.returns
 returns g c =
     let items = c.without_nuls-byte-items.result.now in
     let all : take c.loop-byte.byte-index items ≡ without_nuls c.args.bytes.now = take_all c.loop-byte.byte-index items (omega (arith, c.loop-byte-test.false)) ∙ c.without_nuls-byte-items.ensures in
-    pushes-same (ap (λ bs. (codes "b'" ++ flat_map escaped bs) ++ codes "'") all) (pushed.then c.loop-byte.invariant c.push-2.ensures)
+    pushes-same (ap (λ bs. (codes "b'" ++ flat_map escaped bs) ++ codes "'") all) (pushed.then c.loop-byte.invariant c.push_byte.ensures)

@@ -3,7 +3,7 @@ use Rattle.array_print.proofs.Words.{count, widths_at, part_offsets}
 use Rattle.array_print.proofs.widths.+widen_part.Given as goal
 
 abbrev pub decreases-widen_part : goal.decreases-widen_part
-decreases-widen_part l = length l.items.layout.now.shape - l.axis
+decreases-widen_part l = length l.items.now.layout.now.shape - l.axis
 
 -- the widths are those of the items seen before and of the blocks so far
 abbrev pub invariant-loop-k : goal.invariant-loop-k
