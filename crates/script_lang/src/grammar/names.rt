@@ -23,6 +23,7 @@ pub fn names_unless_verb(word: &[u8]) -> bool
 
 /// The next name, with any blanks before it, and what follows it.
 #[tactic(auto, unfolding(crate::specs::Tokens::name_at, crate::specs::Tokens::word_at), using(crate::proofs::Spelling::unspaced_twice, crate::proofs::Spelling::no_name_start))]
+#[inline(always)]
 pub fn name(bytes: &[u8]) -> Option<(&[u8], &[u8])>
     ensures found { Scans (λ w. (w.0.now, w.1.now)) result (name_at bytes.now) }
     ensures short { IfSome result (λ w. length w.0.now ≤ 32) }
