@@ -1,6 +1,6 @@
 -- Bytes that are numbers.
-use Rattle.std.proofs.Common.{◌≡◌, ◌≤◌, ◌<◌, ◌^◌, ◌+◌, ℕ, suc, Bool, true, false, List, [], ◌∷◌, take, Some, refl, arith, cond, IfSome, length, drop, subst, length-drop}
-use Rattle.script_lang.proofs.Words.{record_mark_at, is_blank, is_mark, unspaced, word_at, name_at, length_at, integer_at, literal_within, literal_at, pow-le-pow_right, list_all, prefix_len}
+use Rattle.std.proofs.Common.{◌≡◌, ◌≤◌, ◌<◌, ◌^◌, ◌+◌, ℕ, zero, suc, Bool, true, false, List, [], ◌∷◌, take, Some, None, if◌then◌else◌, nat_eq, refl, arith, cond, IfSome, length, drop, subst, length-drop}
+use Rattle.script_lang.proofs.Words.{◌>>=◌, record_mark_at, is_blank, is_mark, is_name, is_name_byte, is_name_start, is_parted, starts_with, unspaced, word_at, name_at, length_at, integer_at, literal_within, literal_at, pow-le-pow_right, list_all, prefix_len}
 use Rattle.script_lang.proofs.Shorter.{Few, two_within}
 
 -- A number with fewer digits is below the power of ten for more digits.
@@ -44,6 +44,26 @@ integer_unspaced bytes = rw (unspaced_twice bytes) refl
 pub name_unspaced : (bytes : List ℕ) → name_at (unspaced bytes) ≡ name_at bytes
 unfolding name_at word_at
 name_unspaced bytes = rw (unspaced_twice bytes) refl
+
+unnamed : (n : ℕ) (bytes : List ℕ) → starts_with is_name_start bytes ≡ false → is_name (take n bytes) ≡ false
+unnamed zero bytes other = refl
+unnamed (suc n) [] other = refl
+unnamed (suc n) (b ∷ bytes) other = rw other refl
+
+word_left_out : (word : List ℕ × List ℕ) (parted : Bool) → is_name word.0 ≡ false → ((if parted then Some word else None) >>= λ found. if is_name found.0 then Some found else None) ≡ None
+word_left_out word false other = refl
+word_left_out word true other = rw other refl
+
+front_left_out : (front : List ℕ × List ℕ) (none : Bool) → is_name front.0 ≡ false → ((if none then None else Some front) >>= (λ word. if is_parted word.1 then Some word else None) >>= λ found. if is_name found.0 then Some found else None) ≡ None
+front_left_out front true other = refl
+front_left_out front false other = word_left_out front (is_parted front.1) other
+
+-- There is no name where the first byte cannot start one.
+pub no_name_start : (bytes : List ℕ) → starts_with is_name_start (unspaced bytes) ≡ false → name_at bytes ≡ None
+unfolding name_at word_at
+no_name_start bytes other =
+    let n = prefix_len is_name_byte (unspaced bytes) in
+    front_left_out (take n (unspaced bytes), drop n (unspaced bytes)) (nat_eq n 0) (unnamed n (unspaced bytes) other)
 
 pub literal_unspaced : (bytes : List ℕ) → literal_at (unspaced bytes) ≡ literal_at bytes
 unfolding literal_at literal_within

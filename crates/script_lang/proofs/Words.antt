@@ -15,7 +15,7 @@ pub use Rattle.script_lang.specs.Reading.{argument_room, computation_room, index
 pub use Rattle.script_lang.specs.inside.Rooms.{optional_index_room, scalar_room}
 pub use Rattle.script_lang.specs.RecordLaws.{length_literals_of, listed_literals_of}
 pub use Rattle.script_lang.specs.RecordValues.{Values, no_values, record_value, scalar_value, value_count}
-pub use Rattle.script_lang.specs.Tokens.{behind, byte_at, front_at, front_of, is_at_end, is_blank, is_name, is_name_byte, meaning_at, names_unless_verb, quoted_at, symbol_at, unspaced}
+pub use Rattle.script_lang.specs.Tokens.{behind, byte_at, front_at, front_of, is_at_end, is_blank, is_name, is_name_byte, is_name_start, meaning_at, names_unless_verb, quoted_at, starts_with, symbol_at, unspaced}
 pub use Rattle.script_lang.specs.Readers.{ReaderOf, if_found, one_part, only, optional, two_parts, ◌>>=◌, ◌or_else◌}
 unfoldable pub use Rattle.script_lang.specs.Tokens.{bytes_mark_at, integer_at, is_parted, keyword_at, length_at, name_at, number_at, word_at}
 pub use Rattle.script_lang.specs.Verbs.{operation_of, verbs}

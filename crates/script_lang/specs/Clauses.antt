@@ -8,7 +8,7 @@ pub use Rattle.script_lang.specs.Lists.{Shortens, by_rule, none_or_more, one_or_
 pub use Rattle.script_lang.specs.Literals.{byte_text_at, escape_at, hex_digit_at, hex_value, line_end_at, literal_at, literal_within, record_at, scalar_at, text_byte_at}
 pub use Rattle.script_lang.specs.Readers.{one_part}
 pub use Rattle.script_lang.specs.Reading.{Reads, Says, Scans, Takes, argument_room, index_room, literal_room, operand_room, parts_take_memory, value_room, viewing_room}
-pub use Rattle.script_lang.specs.Tokens.{byte_at, bytes_mark_at, file_name_at, flag_at, front_at, integer_at, is_at_end, is_blank, is_file_name, is_name_byte, is_name_start, is_parted, keyword_at, length_at, name_at, names_unless_verb, number_at, quoted_at, symbol_at, unspaced, word_at}
+pub use Rattle.script_lang.specs.Tokens.{byte_at, bytes_mark_at, file_name_at, flag_at, front_at, integer_at, is_at_end, is_blank, is_file_name, is_name_byte, is_name_start, is_parted, keyword_at, length_at, name_at, names_unless_verb, number_at, quoted_at, starts_with, symbol_at, unspaced, word_at}
 pub use Rattle.script_lang.specs.Verbs.{beside, is_constant, order_of, verb_of}
 pub use Rattle.script_lang.specs.Words.{bytes_eq, is_ascii_digit, is_ellipsis, list_all, prefix_len, value_of}
 pub use Rattle.script_lang.specs.declared.command.Value.TheVariants.{Compute}

@@ -1,27 +1,37 @@
 //! The keywords of the language, and the names of arrays, which keywords cannot be.
 ghost use Rattle.std.specs.Prelude.{IfSome, length, map, ◌≡◌, ◌≤◌};
-ghost use Rattle.script_lang.specs.Clauses.{Scans, name_at, names_unless_verb, beside, is_constant, order_of, verb_of};
+ghost use Rattle.script_lang.specs.Clauses.{Scans, name_at, names_unless_verb, beside, is_constant, is_name_start, order_of, starts_with, verb_of};
 
-use crate::grammar::tokens::{is_name_start, word};
+use crate::grammar::tokens::{is_name_start, unspaced, word};
 use crate::verb::{FOUR_LETTERS, MORE_LETTERS, THREE_LETTERS, TWO_LETTERS, Verb};
 use elem_descr::{LONGEST_NAME, MemoryOrder, Name};
 use std::alloc::Global;
+
+/// Whether the first byte may start a name.
+fn starts_name(bytes: &[u8]) -> bool
+    ensures { result ≡ starts_with is_name_start bytes.now }
+{
+    matches!(bytes, [first, ..] if is_name_start(*first))
+}
 
 /// Whether the word could be a name, unless it is a verb.
 pub fn names_unless_verb(word: &[u8]) -> bool
     ensures { result ≡ names_unless_verb word.now }
 {
-    matches!(word, [first, ..] if is_name_start(*first))
-        && word.len() <= LONGEST_NAME
-        && !is_constant(word)
+    starts_name(word) && word.len() <= LONGEST_NAME && !is_constant(word)
 }
 
 /// The next name, with any blanks before it, and what follows it.
-#[tactic(auto, unfolding(crate::specs::Tokens::name_at))]
+#[tactic(auto, unfolding(crate::specs::Tokens::name_at, crate::specs::Tokens::word_at), using(crate::proofs::Spelling::unspaced_twice, crate::proofs::Spelling::no_name_start))]
+#[inline(always)]
 pub fn name(bytes: &[u8]) -> Option<(&[u8], &[u8])>
     ensures found { Scans (λ w. (w.0.now, w.1.now)) result (name_at bytes.now) }
     ensures short { IfSome result (λ w. length w.0.now ≤ 32) }
 {
+    let bytes = unspaced(bytes);
+    if !starts_name(bytes) {
+        return None;
+    }
     let (name, rest) = word(bytes)?;
     if !names_unless_verb(name) || verb(name).is_some() {
         return None;
@@ -51,17 +61,29 @@ fn lookup(mut table: &[(&[u8], Verb)], word: &[u8]) -> Option<Verb>
     None
 }
 
-/// The verb with this spelling, if there is one.
-pub fn verb(word: &[u8]) -> Option<Verb>
+/// The verb with this spelling of two letters or more, if there is one.
+#[inline(never)]
+fn long_verb(word: &[u8]) -> Option<Verb>
+    requires { 2 ≤ length word.now }
     ensures { result ≡ verb_of word.now }
 {
     match word.len() {
-        0 | 1 => None,
         2 => lookup(&TWO_LETTERS, word),
         3 => lookup(&THREE_LETTERS, word),
         4 => lookup(&FOUR_LETTERS, word),
         _ => lookup(&MORE_LETTERS, word),
     }
+}
+
+/// The verb with this spelling, if there is one.
+#[tactic(auto, using(crate::proofs::VerbLaws::no_short_verb))]
+pub fn verb(word: &[u8]) -> Option<Verb>
+    ensures { result ≡ verb_of word.now }
+{
+    if word.len() < 2 {
+        return None;
+    }
+    long_verb(word)
 }
 
 /// Whether the word is a keyword of literals or index lists.

@@ -1,5 +1,5 @@
 //! Classes of bytes; blanks, symbols and words.
-ghost use Rattle.std.specs.Prelude.{Some, length, true, ◌≡◌, ◌≤◌};
+ghost use Rattle.std.specs.Prelude.{Some, length, nat_eq, true, ◌≡◌, ◌≤◌};
 ghost use Rattle.script_lang.specs.Clauses.{is_allowed, Scans, is_at_end, byte_at, bytes_mark_at, flag_at, front_at, is_blank, is_name_byte, is_name_start, is_parted, keyword_at, symbol_at, unspaced, word_at, is_in, list_all, prefix_len, bytes_eq};
 
 #[derive(Clone, Copy)]
@@ -74,14 +74,22 @@ pub fn are_in(class: Class, bytes: &[u8]) -> bool
     bytes.iter().all(|b| is_in(class, *b))
 }
 
-/// Whether each byte is a tab, or 32 to 126.
-pub fn are_allowed(mut bytes: &[u8]) -> bool
-    ensures { result ≡ list_all is_allowed bytes.entry.now }
+/// Whether the byte is a tab, which few lines have.
+#[cold]
+#[inline(never)]
+fn is_tab(byte: u8) -> bool
+    ensures { result ≡ nat_eq byte 9 }
 {
-    while let [b' '..=b'~' | b'\t', rest @ ..] = bytes {
-        bytes = rest;
-    }
-    bytes.is_empty()
+    byte == b'\t'
+}
+
+/// Whether each byte is a tab, or 32 to 126.
+pub fn are_allowed(bytes: &[u8]) -> bool
+    ensures { result ≡ list_all is_allowed bytes.now }
+{
+    bytes
+        .iter()
+        .all(|b| matches!(*b, b' '..=b'~') || is_tab(*b))
 }
 
 /// The longest prefix of bytes of the class, if it is not empty, and the rest.

@@ -1,12 +1,8 @@
 -- Each table in the code has those rows of the definition whose words have the table's length.
 use Rattle.std.proofs.Common.{◌==◌, nat_lt, length, sym, ◌∙◌, ap, arith}
-use Rattle.script_lang.proofs.Words.{lt-ltb, beside, verbs, verb_of}
+use Rattle.script_lang.proofs.Words.{lt-ltb, verbs, verb_of}
 use Rattle.script_lang.proofs.VerbLaws.{beside-filtered}
-use Rattle.script_lang.proofs.grammar.names.verb.Goals as goal
-
-pub returns-in-0 : goal.returns-in-0
-unfolding verb_of beside
-returns-in-0 c = sym (beside-filtered (λ w. nat_lt (length w) 2) verbs c.args.word.now (lt-ltb (length c.args.word.now) 2 (omega (arith, c.in-0))))
+use Rattle.script_lang.proofs.grammar.names.long_verb.Goals as goal
 
 pub returns-in-2 : goal.returns-in-2
 unfolding verb_of
