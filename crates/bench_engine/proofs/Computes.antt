@@ -1,6 +1,7 @@
 -- A name that is bound to the result of a computation.
 use Rattle.std.proofs.Common.{◌≡◌, ℕ, true, false, Some, None, List, map, IfOk, Result, Ok, Err, refl, sym, ap, ◌∙◌, ◌⊎◌, inl, inr}
-use Rattle.bench_engine.proofs.Words.{list_all, map-map, Refusal, UnknownName, TooManyNames, OutOfMemory, Descr, Gives, item_from, IndexItem, C, offsets, unary_result, unary_item, Items, Owned, Operation, UnOp, Operand, Argument, Computation, State, find_array, is_bound, has_room_for, descr_of, read, View, Array, Contents, new_contents, taken, bound_in_computation, Choice, compute_outcome, bound_new, operand_values, viewed, operand_part, argument_values, operation_with, operation_contents, transformed, computed_contents, origin_of, StandsFor, GivesGiven, held, IsInCOrder}
+use Rattle.bench_engine.proofs.Words.{list_all, map-map, Refusal, UnknownName, TooManyNames, OutOfMemory, Descr, Gives, item_from, IndexItem, C, offsets, unary_result, unary_item, Items, Owned, Operation, UnOp, Operand, Argument, Computation, State, find_array, is_bound, has_room_for, descr_of, read, View, Array, Contents, new_contents, taken, bound_in_computation, Choice, compute_outcome, bound_new, operand_values, viewed, operand_part, argument_values, operation_with, operation_contents, transformed, computed_contents, origin_of, StandsFor, held, IsInCOrder}
+use Rattle.script_lang.specs.declared.command.Argument.TheVariants as argument
 use Rattle.bench_engine.proofs.Copies.{made-held}
 
 -- ---- the command
@@ -44,9 +45,8 @@ pub combined-part : (s : State) (op : Operation) (left : Operand) (right : Argum
 unfolding operation_contents
 combined-part s op left right part good = rw good refl
 
-pub combined-bad : (s : State) (op : Operation) (left : Operand) (right : Argument) (part : Array) (e : Refusal) → operand_part s left ≡ Ok part → GivesGiven s right (Err e) → (e ≡ OutOfMemory) ⊎ (operation_contents s op left right ≡ Err e)
-combined-bad s op left right part e good (inl lacks) = inl lacks
-combined-bad s op left right part e good (inr (operand, is, bad)) = inr (combined-part s op left right part good ∙ rw (is, bad) refl)
+pub combined-bad : (s : State) (op : Operation) (left right : Operand) (part : Array) (e : Refusal) → operand_part s left ≡ Ok part → operand_part s right ≡ Err e → operation_contents s op left (argument.Operand right) ≡ Err e
+combined-bad s op left right part e good bad = combined-part s op left (argument.Operand right) part good ∙ rw bad refl
 
 -- ---- one operand
 

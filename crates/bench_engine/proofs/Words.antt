@@ -29,7 +29,7 @@ pub use Rattle.bench_engine.specs.inside.Assigns.{Fitted, Holds, IsAimed, IsTarg
 pub use Rattle.bench_engine.specs.inside.Contract.{Carried, CarriesOut, IsRefused}
 pub use Rattle.bench_engine.specs.inside.LoadedFiles.{Finds}
 pub use Rattle.bench_engine.specs.inside.Meeting.{Meets}
-pub use Rattle.bench_engine.specs.inside.Operands.{AreSources, GivesGiven, HoldsItems, IsGiven, IsPart, LiesInBuffer, OwnStands, Stands, StandsFor}
+pub use Rattle.bench_engine.specs.inside.Operands.{AreSources, HoldsItems, IsGiven, IsPart, LiesInBuffer, OwnStands, Stands, StandsFor}
 pub use Rattle.bench_engine.specs.inside.OwnContents.{IsInCOrder, held}
 pub use Rattle.bench_engine.specs.inside.Parts.{IsOf, IsSeen, descr_seen, origin_of_bound, shape_of_bound}
 pub use Rattle.bench_engine.specs.inside.Printing.{MayPrint, SendsAnswer}

@@ -13,7 +13,7 @@ pub use Rattle.bench_engine.specs.inside.Assigns.{Fitted, IsAimed}
 pub use Rattle.bench_engine.specs.inside.Contract.{Carried, CarriesOut}
 pub use Rattle.bench_engine.specs.inside.LoadedFiles.{Finds}
 pub use Rattle.bench_engine.specs.inside.Meeting.{Meets}
-pub use Rattle.bench_engine.specs.inside.Operands.{AreSources, GivesGiven, HoldsItems, IsGiven, IsNamed, IsNamedBy, IsPart, Knows, LiesInBuffer, OwnStands, Stands, StandsFor, buffer_number}
+pub use Rattle.bench_engine.specs.inside.Operands.{AreSources, HoldsItems, IsGiven, IsNamed, IsNamedBy, IsPart, Knows, LiesInBuffer, OwnStands, Stands, StandsFor, buffer_number}
 pub use Rattle.bench_engine.specs.inside.OwnContents.{IsInCOrder, held}
 pub use Rattle.bench_engine.specs.inside.Parts.{IsShown, Sees, SeesIn, origin_of_bound, shape_of_bound}
 pub use Rattle.bench_engine.specs.inside.Printing.{MayPrint, SendsAnswer}

@@ -1,7 +1,7 @@
 //! The values of operands and arguments: a literal, or the part of an array that an index list
 //! selects.
 ghost use Rattle.std.specs.Prelude.{All, length, true, ◌+◌, ◌≡◌, ◌≤◌};
-ghost use Rattle.bench_engine.specs.Clauses.{Array, GivesGiven, IsNamed, IsNamedBy, IsPart, Knows, LiesInBuffer, Meets, StandsFor, State, buffer_number, is_bound, item_size, list_all, names_in_argument, names_in_operand, offsets, operand_part};
+ghost use Rattle.bench_engine.specs.Clauses.{Array, IsNamed, IsNamedBy, IsPart, Knows, LiesInBuffer, Meets, StandsFor, State, buffer_number, is_bound, item_size, list_all, names_in_argument, names_in_operand, offsets, operand_part};
 
 use crate::index_list::{named_array, named_target};
 use arrays::Owned;
@@ -112,25 +112,4 @@ pub fn operand_part<'a>(
 pub enum Given<'a> {
     Literal(&'a Literal),
     Items(Part<'a>),
-}
-
-/// The value of an argument, given the array of its name. The refusals are those of the operand's
-/// index list.
-pub fn given_by<'a>(
-    alloc: Global,
-    bench: &Bench,
-    value: &'a Argument,
-    array: Option<ArrayRef<'a>>,
-) -> Result<Given<'a>, Refusal>
-    requires bound { list_all (is_bound bench.now.state) (names_in_argument value.now) ≡ true }
-    requires named { IsNamedBy bench.now.state value.now array }
-    ensures { GivesGiven bench.now.state value.now result }
-{
-    match value {
-        Argument::Literal(literal) => Ok(Given::Literal(literal)),
-        Argument::Operand(operand) => {
-            let part = operand_part(alloc, bench, operand, array.unwrap())?;
-            Ok(Given::Items(part))
-        }
-    }
 }

@@ -8,7 +8,7 @@ ghost use Rattle.bench_engine.specs.Clauses.{held, IsInCOrder, bound_in_computat
 
 use crate::create::{bind_new, filled, item_of};
 use crate::index_list::named_array;
-use crate::operands::{Given, argument_array, given_by, items_of_view, operand_part};
+use crate::operands::{argument_array, items_of_view, operand_part};
 use crate::replies::Origin;
 use crate::reply_text::ReplyText;
 use arrays::Owned;
@@ -18,7 +18,7 @@ use elementwise::{
     promote, scalar_of,
 };
 use name_store::{ArrayRef, Bench};
-use script_lang::{Computation, Literal, Operation, ScalarLiteral};
+use script_lang::{Argument, Computation, Literal, Operation, ScalarLiteral};
 use shape_strides::Shape;
 use std::alloc::Global;
 
@@ -206,11 +206,13 @@ fn computed(
             right,
         } => {
             let left = operand_part(alloc, bench, left, first)?;
-            let right = given_by(alloc, bench, right, second)?;
             let items = left.items();
-            match &right {
-                Given::Literal(literal) => work_literal(alloc, *operation, items, literal),
-                Given::Items(part) => work(alloc, *operation, items, part.items()),
+            match right {
+                Argument::Literal(literal) => work_literal(alloc, *operation, items, literal),
+                Argument::Operand(right) => {
+                    let right = operand_part(alloc, bench, right, second.unwrap())?;
+                    work(alloc, *operation, items, right.items())
+                }
             }
         }
         Computation::Transform { operation, operand } => {

@@ -1,11 +1,20 @@
 //! Parts of replies that several commands use.
-ghost use Rattle.std.specs.Prelude.{◌≡◌, ◌≤◌, ◌++◌, length, OnOk};
+ghost use Rattle.std.specs.Prelude.{codes, ◌≡◌, ◌≤◌, ◌++◌, length, OnOk};
 ghost use Rattle.bench_engine.specs.Clauses.{descr_text, array_words, origin_word, bound_text};
+ghost use Rattle.bench_engine.specs.Words.{shape_text};
 
 use crate::reply_text::ReplyText;
 use elem_descr::{Descr, Name, format_write, typestr_write};
 use shape_strides::Shape;
 use std::alloc::AllocError;
+use std::fmt::Write;
+
+/// Appends a blank and a shape.
+fn push_shape(out: &mut ReplyText, shape: &Shape) -> Result<(), AllocError>
+    ensures { OnOk result (out.new ≡ out.old ++ (codes " " ++ shape_text shape.now)) }
+{
+    write!(out, " {shape}").map_err(|_| AllocError)
+}
 
 /// Makes `HEAD X DESCR SHAPE` the reply.
 pub fn set_array_words(
@@ -23,11 +32,10 @@ pub fn set_array_words(
         Descr::Scalar(scalar) => typestr_write(alloc, *scalar)?,
         Descr::Record(_) => format_write(alloc, descr)?,
     };
-    let shape = format!(in alloc; " {shape}")?;
     out.set(head, name.as_slice());
     out.push(b" ")?;
     out.push(descr.as_slice())?;
-    out.push(shape.as_bytes())
+    push_shape(out, shape)
 }
 
 /// What a name is bound to: a new array, a view of another, or a copy of its items.

@@ -6,6 +6,7 @@ use array_print::{PrintFault, WriteFault, print_by_bands, send};
 use elem_descr::Descr;
 use shape_strides::Layout;
 use std::alloc::{AllocError, Global};
+use std::fmt;
 use std::io::Write;
 use std::marker::Model;
 
@@ -26,6 +27,15 @@ impl Model for ReplyText {
     ghost view = { λ r. r.bytes.items };
 
     ghost invariant = { λ r. 64 ≤ vec_capacity r.bytes };
+}
+
+/// Appends what is written, or fails for lack of memory.
+impl fmt::Write for ReplyText {
+    ghost write_str_gives = { λ before more after. after ≡ before ++ more };
+
+    fn write_str(&mut self, more: &str) -> fmt::Result {
+        Ok(self.push(more.as_bytes())?)
+    }
 }
 
 impl ReplyText {

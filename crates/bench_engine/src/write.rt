@@ -4,7 +4,7 @@ ghost use Rattle.bench_engine.specs.Clauses.{list_all, item_size, count, max_byt
 
 use crate::create::item_of;
 use crate::index_list::{named_array, named_target};
-use crate::operands::{Given, argument_array, given_by};
+use crate::operands::{Given, argument_array, operand_part};
 use crate::reply_text::ReplyText;
 use crate::update::{Writing, updated};
 use elem_descr::{Descr, Name, Refusal};
@@ -129,8 +129,15 @@ fn writing_of(
     // These calls tell the prover how large an item may be, and how many items a shape may have.
     let _size = array.descr.size();
     let _count = target.shape().items();
-    let given = given_by(alloc, bench, value, source)?;
-    new_items(alloc, &array, target, operation, &given)
+    match value {
+        Argument::Literal(literal) => {
+            new_items(alloc, &array, target, operation, &Given::Literal(literal))
+        }
+        Argument::Operand(operand) => {
+            let part = operand_part(alloc, bench, operand, source.unwrap())?;
+            new_items(alloc, &array, target, operation, &Given::Items(part))
+        }
+    }
 }
 
 /// `set X[ix] = Z`, or with an operation `upd X[ix] OP Z`.

@@ -192,9 +192,42 @@ impl Writer<'_> {
         }
     }
 
+    /// Writes the items to the target, and returns the old ones with their places in the same order:
+    /// the order of memory, unless they were exchanged with the items of a block.
+    #[inline(never)]
+    fn put_near(
+        self,
+        block: &mut RawBlock,
+        source: Source,
+        target: Target,
+    ) -> Result<Overwritten, AllocError>
+        requires may { MayRun self source block.old }
+        requires near { IsNear self.target target }
+        ensures put { Runs self.entry source block.old result block.new }
+        ensures old { IfOk result (AreKept self.entry.width block.old self.entry.target) }
+    {
+        match source {
+            Source::One(item) => {
+                let writer = Writer { target, ..self };
+                let items = writer.put_over(block, Source::One(item))?;
+                let target = writer.target;
+                Ok(Overwritten { target, items })
+            }
+            Source::Buffer(number, from) => {
+                let items = old_items(self.alloc, block, self.width, &target)?;
+                self.copy_items(block, &Source::Buffer(number, from))?;
+                Ok(Overwritten { target, items })
+            }
+            source => {
+                let items = self.put_over(block, source)?;
+                let target = self.target;
+                Ok(Overwritten { target, items })
+            }
+        }
+    }
+
     /// Writes the items to the target. If the old ones are to be kept, returns them with their
-    /// places in the same order: the order of memory, unless they were exchanged with the items of
-    /// a block.
+    /// places in the same order.
     fn put(
         self,
         block: &mut RawBlock,
@@ -212,24 +245,12 @@ impl Writer<'_> {
             self.put_items(block, source)?;
             return Ok(None);
         }
-        match (near(self.alloc, &self.target), source) {
-            (Some(target), Source::One(item)) => {
-                let writer = Writer { target, ..self };
-                let items = writer.put_over(block, Source::One(item))?;
-                let target = writer.target;
-                Ok(Some(Overwritten { target, items }))
-            }
-            (Some(target), Source::Buffer(number, from)) => {
-                let items = old_items(self.alloc, block, self.width, &target)?;
-                self.copy_items(block, &Source::Buffer(number, from))?;
-                Ok(Some(Overwritten { target, items }))
-            }
-            (_, source) => {
-                let items = self.put_over(block, source)?;
-                let target = self.target;
-                Ok(Some(Overwritten { target, items }))
-            }
+        if let Some(target) = near(self.alloc, &self.target) {
+            return Ok(Some(self.put_near(block, source, target)?));
         }
+        let items = self.put_over(block, source)?;
+        let target = self.target;
+        Ok(Some(Overwritten { target, items }))
     }
 }
 

@@ -61,11 +61,6 @@ abbrev pub IsGiven : State → Argument → Given → Type 0
 IsGiven s value (given.Literal literal) = value ≡ argument.Literal literal.now
 IsGiven s value (given.Items p) = (operand : Operand) × (array : Array) × (value ≡ argument.Operand operand) × (operand_part s operand ≡ Ok array) × IsPart s p array
 
--- The result is the value of an argument. A refusal is that of the operand's part, or out of memory.
-abbrev pub GivesGiven : State → Argument → Result Given Refusal → Type 0
-GivesGiven s value (Ok given) = IsGiven s value given
-GivesGiven s value (Err refusal) = (refusal ≡ OutOfMemory) ⊎ ((operand : Operand) × (value ≡ argument.Operand operand) × (operand_part s operand ≡ Err refusal))
-
 -- The items are those of an operand, with its element type and its shape, and also when both are stretched.
 pub record Stands (v : OperandValues) (x : Items) : Type 0 where
   pub descr : v.descr ≡ x.descr.now

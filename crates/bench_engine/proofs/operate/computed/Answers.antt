@@ -1,5 +1,5 @@
 use Rattle.std.proofs.Common.{ap, refl, subst, sym, ◌∙◌}
-use Rattle.bench_engine.proofs.Words.{err_from_is_err_and, cast_contents, operand_part, operand_values, operation_contents, transformed, Computation, Gives, descriptor, Given, AreSources, IsGiven, IsPart, held}
+use Rattle.bench_engine.proofs.Words.{err_from_is_err_and, cast_contents, operand_part, operand_values, operation_contents, transformed, Computation, Gives, descriptor, AreSources, IsPart, held}
 use Rattle.bench_engine.proofs.Answered.{met}
 use Rattle.bench_engine.proofs.Casts.{cast-gives}
 use Rattle.bench_engine.proofs.Computes.{combined-bad, combined-part, transformed-gives}
@@ -46,11 +46,11 @@ operand_part-requires-clause-named c =
     let it = subst (λ (k : Computation). AreSources s k c.args.sources) c.in-Combine.is c.requires.sources in
     it.0
 
-pub given_by-requires-clause-named : goal.given_by-requires-clause-named
-given_by-requires-clause-named c =
+pub operand_part-requires-in-Operand-clause-named : goal.operand_part-requires-in-Operand-clause-named
+operand_part-requires-in-Operand-clause-named c =
     let s = c.args.bench.now.state in
     let it = subst (λ (k : Computation). AreSources s k c.args.sources) c.in-Combine.is c.requires.sources in
-    it.1
+    rw (c.in-Operand.is, c.unwrap.ensures) at it.1
 
 pub returns-in_err-left-in-Combine : goal.returns-in_err-left-in-Combine
 unfolding operation_contents
@@ -59,12 +59,12 @@ returns-in_err-left-in-Combine c =
     let p = err_from_is_err_and c.from_residual-in_err-left-in-Combine.result c.from_residual-in_err-left-in-Combine.ensures.1 in
     rw (p.1, p.2, c.in-Combine.is) (passed (operand_part s _) _ _ (λ bad. rw bad refl) c.in_err-left-in-Combine.ensures)
 
-pub returns-in_err-right-in-Combine : goal.returns-in_err-right-in-Combine
-returns-in_err-right-in-Combine c =
+pub returns-in_err-right-in-Operand : goal.returns-in_err-right-in-Operand
+returns-in_err-right-in-Operand c =
     let s = c.args.bench.now.state in
-    let p = err_from_is_err_and c.from_residual-in_err-right-in-Combine.result c.from_residual-in_err-right-in-Combine.ensures.1 in
+    let p = err_from_is_err_and c.from_residual-in_err-right-in-Operand.result c.from_residual-in_err-right-in-Operand.ensures.1 in
     let is = met (IsPart s) c.in_ok-left-in-Combine.left (operand_part s _) c.in_ok-left-in-Combine.ensures in
-    rw (p.1, p.2, c.in-Combine.is) (combined-bad s c.in-Combine.operation _ _ is.0 _ is.1 c.in_err-right-in-Combine.ensures)
+    rw (p.1, p.2, c.in-Combine.is, c.in-Operand.is) (passed (operand_part s _) _ _ (combined-bad s c.in-Combine.operation _ _ is.0 _ is.1) c.in_err-right-in-Operand.ensures)
 
 pub items-items-requires : goal.items-items-requires
 items-items-requires c =
@@ -74,24 +74,24 @@ items-items-requires c =
 
 pub items-requires : goal.items-requires
 items-requires c =
-    let is = subst (λ (g : Given). IsGiven c.args.bench.now.state c.in-Combine.right g) c.in-Items.is c.in_ok-right-in-Combine.ensures in
-    (c.args.bench.now.state, is.1, is.4)
+    let s = c.args.bench.now.state in
+    let other = met (IsPart s) c.in_ok-right-in-Operand.right (operand_part s _) c.in_ok-right-in-Operand.ensures in
+    (s, other.0, other.2)
 
 pub returns-in-Literal : goal.returns-in-Literal
 returns-in-Literal c =
     let s = c.args.bench.now.state in
     let is = met (IsPart s) c.in_ok-left-in-Combine.left (operand_part s _) c.in_ok-left-in-Combine.ensures in
-    let given = subst (λ (g : Given). IsGiven s c.in-Combine.right g) c.in-Literal.is c.in_ok-right-in-Combine.ensures in
     rw c.in-Combine.is (subst (Gives held c.work_literal.result) (sym (combined-part s c.in-Combine.operation _ _ is.0 is.1))
-    (rw given (c.work_literal.ensures.gives (operand_values s is.0) (all-stand s is.0 _ (c.items-items.ensures.stands s is.0 is.2)))))
+    (rw c.in-Literal.is (c.work_literal.ensures.gives (operand_values s is.0) (all-stand s is.0 _ (c.items-items.ensures.stands s is.0 is.2)))))
 
 pub returns-in-Combine : goal.returns-in-Combine
 returns-in-Combine c =
     let s = c.args.bench.now.state in
     let is = met (IsPart s) c.in_ok-left-in-Combine.left (operand_part s _) c.in_ok-left-in-Combine.ensures in
-    let given = subst (λ (g : Given). IsGiven s c.in-Combine.right g) c.in-Items.is c.in_ok-right-in-Combine.ensures in
+    let other = met (IsPart s) c.in_ok-right-in-Operand.right (operand_part s _) c.in_ok-right-in-Operand.ensures in
     rw c.in-Combine.is (subst (Gives held c.work.result) (sym (combined-part s c.in-Combine.operation _ _ is.0 is.1))
-    (rw (given.2, given.3) (c.work.ensures.gives (operand_values s is.0) (operand_values s given.1) (all-stand s is.0 _ (c.items-items.ensures.stands s is.0 is.2)) (all-stand s given.1 _ (c.items.ensures.stands s given.1 given.4)))))
+    (rw (c.in-Operand.is, other.1) (c.work.ensures.gives (operand_values s is.0) (operand_values s other.0) (all-stand s is.0 _ (c.items-items.ensures.stands s is.0 is.2)) (all-stand s other.0 _ (c.items.ensures.stands s other.0 other.2)))))
 
 pub items-requires-in-Transform : goal.items-requires-in-Transform
 items-requires-in-Transform c =

@@ -1,16 +1,17 @@
 use Rattle.std.proofs.Common.{◌≡◌, ◌≤◌, ◌⊎◌, ◌&&◌, ◌∷◌, ◌++◌, ap, sym, subst, refl, ◌∙◌, inl, inr, arith, List, ℕ, true, false, is_some, Option, Some, None, Result, Ok, Err}
-use Rattle.bench_engine.proofs.Words.{list_all, list_all-append, and_parts, err_from_is_err_and, Argument, Descr, IndexItem, Operation, OutOfMemory, Refusal, State, UnknownName, LeafValue, count, descr_of, find_array, is_bound, max_items, written, Array, names_in_index, accepted_with, names_in_argument, new_items, target_part, write_outcome, write_reply, Writing, IsTarget, Meets, GivesGiven, Leaves, Prepares}
+use Rattle.bench_engine.proofs.Words.{list_all, list_all-append, and_parts, err_from_is_err_and, Argument, Descr, IndexItem, Operation, OutOfMemory, Refusal, State, UnknownName, LeafValue, count, descr_of, find_array, is_bound, max_items, written, Array, names_in_index, accepted_with, names_in_argument, new_items, target_part, write_outcome, write_reply, Writing, Operand, operand_part, IsPart, IsTarget, Meets, Leaves, Prepares}
+use Rattle.script_lang.specs.declared.command.Argument.TheVariants as argument
+use Rattle.bench_engine.specs.NewArrayLaws.{passed}
 use Rattle.bench_engine.proofs.Answered.{met}
 use Rattle.bench_engine.proofs.TargetLaws.{refused-target, fixed-target, given-target}
 use Rattle.bench_engine.proofs.Views.{refused-or}
 use Rattle.bench_engine.proofs.write.writing_of.Goals.{In_ok-source, After-items-count}
 use Rattle.bench_engine.proofs.write.writing_of.Goals as goal
 
--- if the argument is refused, so are the new items
-ungiven : (s : State) (descr : Descr) (part : Array) (op : Option Operation) (value : Argument) (e : Refusal) → GivesGiven s value (Err e) → (e ≡ OutOfMemory) ⊎ (new_items s descr part op value ≡ Err e)
-ungiven s descr part op value e (inl lacks) = inl lacks
-ungiven s descr part None value e (inr (operand, is, wrong)) = inr (rw (is, wrong) refl)
-ungiven s descr part (Some op) value e (inr (operand, is, wrong)) = inr (rw (is, wrong) refl)
+-- if the operand is refused, so are the new items
+ungiven : (s : State) (descr : Descr) (part : Array) (op : Option Operation) (operand : Operand) (e : Refusal) → operand_part s operand ≡ Err e → new_items s descr part op (argument.Operand operand) ≡ Err e
+ungiven s descr part None operand e wrong = rw wrong refl
+ungiven s descr part (Some op) operand e wrong = rw wrong refl
 
 -- the outcome of the machine, if a name is unbound, and from the new items of a target
 unknown : (s : State) (name : List ℕ) (index : List (IndexItem (List ℕ))) (op : Option Operation) (value : Argument) (found : Option Array) → find_array s.names name ≡ found → (is_some found && list_all (is_bound s) (names_in_index index ++ names_in_argument value)) ≡ false → write_outcome s name index op value ≡ Err UnknownName
@@ -86,28 +87,53 @@ returns-then-not-array c =
     let fixed = fixed-target s it.0 c.in_ok-array.array it.2 c.as_slice.result.now c.in_ok-target.target (c.in_ok-target.ensures it.0 it.2) c.if-not-array.true in
     inr (λ choice. rw (it.1, others s c.args.selection.name.now c.args.selection.index.now c.args.value.now all, ap (target_part s it.0) (sym c.as_slice.ensures) ∙ fixed) refl)
 
-pub returns-in_err-given : goal.returns-in_err-given
-returns-in_err-given c =
+pub operand_part-requires-clause-bound : goal.operand_part-requires-clause-bound
+operand_part-requires-clause-bound c = rw c.in-Operand.is at c.in_ok-source.ensures.0
+
+pub operand_part-requires-clause-named : goal.operand_part-requires-clause-named
+operand_part-requires-clause-named c = rw (c.in-Operand.is, c.unwrap.ensures) at c.in_ok-source.ensures.1
+
+pub returns-in_err-part-in-Operand : goal.returns-in_err-part-in-Operand
+returns-in_err-part-in-Operand c =
     let s = c.args.bench.now.state in
-    let at = goal.at.returns-in_err-given c in
-    let e = err_from_is_err_and c.from_residual-in_err-given.result c.from_residual-in_err-given.ensures.1 in
+    let at = goal.at.returns-in_err-part-in-Operand c in
+    let e = err_from_is_err_and c.from_residual-in_err-part-in-Operand.result c.from_residual-in_err-part-in-Operand.ensures.1 in
     let it = c.in_ok-array.ensures.1 in
     let p = aimed at.After-items-count in
     rw (e.1, e.2) (prepared s c.args.selection.name.now c.args.selection.index.now c.args.operation c.args.value.now it.0 p.0 it.1 (all-bound at.In_ok-source) p.1 (few at.After-items-count p.0 p.2)
-    (Err _) (ungiven s _ p.0 c.args.operation c.args.value.now _ c.in_err-given.ensures))
+    (Err _) (passed (operand_part s c.in-Operand.operand) _ _ (λ wrong. ap (new_items s (descr_of s it.0) p.0 c.args.operation) c.in-Operand.is ∙ ungiven s (descr_of s it.0) p.0 c.args.operation c.in-Operand.operand _ wrong) c.in_err-part-in-Operand.ensures))
 
 pub new_items-requires : goal.new_items-requires
 new_items-requires c =
     let it = c.in_ok-array.ensures.1 in
     let p = aimed (goal.at.new_items-requires c).After-items-count in
-    (c.args.bench.now.state, c.args.value.now, c.in_ok-given.ensures, (c.args.selection.name.now, it.0, p.0, it.2, p.2))
+    (c.args.bench.now.state, c.args.value.now, c.in-Literal.is, (c.args.selection.name.now, it.0, p.0, it.2, p.2))
 
-pub returns : goal.returns
-returns c =
+pub new_items-requires-in-Operand : goal.new_items-requires-in-Operand
+new_items-requires-in-Operand c =
     let s = c.args.bench.now.state in
-    let at = goal.at.returns c in
+    let it = c.in_ok-array.ensures.1 in
+    let p = aimed (goal.at.new_items-requires-in-Operand c).After-items-count in
+    let is = met (IsPart s) c.in_ok-part-in-Operand.part (operand_part s _) c.in_ok-part-in-Operand.ensures in
+    (s, c.args.value.now, (c.in-Operand.operand, is.0, c.in-Operand.is, is.1, is.2), (c.args.selection.name.now, it.0, p.0, it.2, p.2))
+
+pub returns-in-Literal : goal.returns-in-Literal
+returns-in-Literal c =
+    let s = c.args.bench.now.state in
+    let at = goal.at.returns-in-Literal c in
     let it = c.in_ok-array.ensures.1 in
     let p = aimed at.After-items-count in
     prepared s c.args.selection.name.now c.args.selection.index.now c.args.operation c.args.value.now it.0 p.0 it.1 (all-bound at.In_ok-source) p.1 (few at.After-items-count p.0 p.2) c.new_items.result
     (subst (λ (d : Descr). Meets (Leaves s c.args.selection.name.now it.0 p.0) c.new_items.result (new_items s d p.0 c.args.operation c.args.value.now)) (sym it.2.descr)
-    (c.new_items.ensures s c.args.value.now c.in_ok-given.ensures c.args.selection.name.now it.0 p.0 it.2 p.2))
+    (c.new_items.ensures s c.args.value.now c.in-Literal.is c.args.selection.name.now it.0 p.0 it.2 p.2))
+
+pub returns-in_ok-part-in-Operand : goal.returns-in_ok-part-in-Operand
+returns-in_ok-part-in-Operand c =
+    let s = c.args.bench.now.state in
+    let at = goal.at.returns-in_ok-part-in-Operand c in
+    let it = c.in_ok-array.ensures.1 in
+    let p = aimed at.After-items-count in
+    let is = met (IsPart s) c.in_ok-part-in-Operand.part (operand_part s _) c.in_ok-part-in-Operand.ensures in
+    prepared s c.args.selection.name.now c.args.selection.index.now c.args.operation c.args.value.now it.0 p.0 it.1 (all-bound at.In_ok-source) p.1 (few at.After-items-count p.0 p.2) c.new_items-in-Operand.result
+    (subst (λ (d : Descr). Meets (Leaves s c.args.selection.name.now it.0 p.0) c.new_items-in-Operand.result (new_items s d p.0 c.args.operation c.args.value.now)) (sym it.2.descr)
+    (c.new_items-in-Operand.ensures s c.args.value.now (c.in-Operand.operand, is.0, c.in-Operand.is, is.1, is.2) c.args.selection.name.now it.0 p.0 it.2 p.2))
