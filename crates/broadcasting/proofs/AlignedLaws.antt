@@ -1,6 +1,6 @@
 -- Laws of aligned shapes, axis by axis.
-use Rattle.std.proofs.Common.{◌≡◌, ℕ, ◌+◌, ◌<◌, ◌≤◌, ◌&&◌, max, Bool, true, false, Ok, Err, ℤ, pos, List, [], ◌∷◌, ◌++◌, length, drop, get_or, refl, sym, ap, ◌∙◌, arith, append-nil}
-use Rattle.broadcasting.proofs.Words.{le-max_left, le-max_right, drop_of_length-le, false_from_ne_true, and_left, drop_more, ShapesDoNotBroadcast, aligned, go_together, all_go_together, common_lengths, common_of_two, can_stretch, length-aligned, common-none, common-some, few-axes, kept_stride, kept_strides}
+use Rattle.std.proofs.Common.{◌≡◌, ℕ, ◌+◌, ◌<◌, ◌≤◌, ◌&&◌, max, ◌-◌, ◌==◌, Bool, true, false, Ok, Err, List, [], ◌∷◌, ◌++◌, length, drop, get_or, inl, inr, refl, sym, ap, ◌∙◌, arith, append-nil, replicate}
+use Rattle.broadcasting.proofs.Words.{max-eq_left, max-eq_right, eq-eqb, or-true, cases_Bool, le-max_left, le-max_right, drop_of_length-le, false_from_ne_true, and_left, drop_more, ShapesDoNotBroadcast, aligned, go_together, all_go_together, common_lengths, common_of_two, can_stretch, length-aligned, common-none, common-some, few-axes}
 
 -- ---- the common lengths of two shapes
 
@@ -25,6 +25,42 @@ found-all left right rank axis lengths is past together are =
     let all : all_go_together (aligned rank left) (aligned rank right) ≡ true = sym together ∙ ap (λ l. all_go_together l (drop axis (aligned rank right))) none in
     let found : lengths ≡ common_lengths (aligned rank left) (aligned rank right) = sym (append-nil lengths) ∙ ap (λ l. lengths ++ common_lengths l (drop axis (aligned rank right))) (sym none) ∙ are in
     common-some left right rank is all ∙ ap Ok (sym found)
+
+aligned-own : (shape : List ℕ) → aligned (length shape) shape ≡ shape
+aligned-own shape = let none : length shape - length shape ≡ 0 = omega arith in rw none refl
+
+together-same : (shape : List ℕ) → all_go_together shape shape ≡ true
+together-same [] = refl
+together-same (n ∷ shape) = let here : (n == n) ≡ true = eq-eqb n n refl in rw (here, together-same shape) refl
+
+lengths-same : (shape : List ℕ) → common_lengths shape shape ≡ shape
+lengths-same [] = refl
+lengths-same (n ∷ shape) = elim (cases_Bool (n == 1)) [ inl one ↦ rw (one, lengths-same shape) refl | inr more ↦ rw (more, lengths-same shape) refl ]
+
+-- The common lengths of a shape and itself are its own.
+pub common-same : (shape : List ℕ) → common_of_two shape shape ≡ Ok shape
+common-same shape =
+    let is : length shape ≡ max (length shape) (length shape) = sym (max-eq_left (omega arith)) in
+    let own = aligned-own shape in
+    common-some shape shape (length shape) is (ap (λ l. all_go_together l l) own ∙ together-same shape) ∙ ap Ok (ap (λ l. common_lengths l l) own ∙ lengths-same shape)
+
+together-ones : (shape : List ℕ) → all_go_together (replicate (length shape) 1 ++ []) shape ≡ true
+together-ones [] = refl
+together-ones (n ∷ shape) = rw (or-true (1 == n), together-ones shape) refl
+
+lengths-ones : (shape : List ℕ) → common_lengths (replicate (length shape) 1 ++ []) shape ≡ shape
+lengths-ones [] = refl
+lengths-ones (n ∷ shape) = ap (λ l. n ∷ l) (lengths-ones shape)
+
+-- The common lengths of no axes and a shape are those of the shape.
+pub common-of-none : (shape : List ℕ) → common_of_two [] shape ≡ Ok shape
+common-of-none shape =
+    let missing : length shape - 0 ≡ length shape = omega arith in
+    let ones : aligned (length shape) [] ≡ replicate (length shape) 1 ++ [] = ap (λ n. replicate n 1 ++ []) missing in
+    let own = aligned-own shape in
+    let together = ap (λ l. all_go_together l (aligned (length shape) shape)) ones ∙ ap (all_go_together _) own ∙ together-ones shape in
+    let lengths = ap (λ l. common_lengths l (aligned (length shape) shape)) ones ∙ ap (common_lengths _) own ∙ lengths-ones shape in
+    common-some [] shape (length shape) (sym (max-eq_right (omega arith))) together ∙ ap Ok lengths
 
 -- ---- stretching
 

@@ -8,10 +8,13 @@ pub use Rattle.broadcasting.specs.Words.{Gives, GivesView, IsIndex, IsIndex-from
 unfoldable pub use Rattle.broadcasting.specs.Words.{shape_of}
 pub use Rattle.broadcasting.specs.inside.Stretches.{AreStretched, kept_stride, kept_strides}
 pub use Rattle.std.proofs.Math.ListN.{drop_of_length-le}
-pub use Rattle.std.proofs.Math.Nat.{mul-le-mul}
-pub use Rattle.std.proofs.lemmas.Bool.{and_left, false_from_ne_true}
-pub use Rattle.std.proofs.lemmas.List.{drop_more, get_or-map, get_or_append_left, get_or_default, length-drop, length-map}
+pub use Rattle.std.proofs.Math.Bool.{or-true}
+pub use Rattle.std.proofs.Math.Nat.{max-eq_left, max-eq_right, mul-le-mul}
+pub use Rattle.std.proofs.lemmas.Bool.{and_left, eq-eqb, false_from_ne_true}
+pub use Rattle.std.proofs.lemmas.Bool.Decides.{Decides-eqb}
+pub use Rattle.std.proofs.lemmas.List.{drop_more, get_or-map, get_or_append_left, get_or_default, length-drop, length-map, nil_from_length}
 pub use Rattle.std.proofs.lemmas.List.Elements.{All-drop}
 pub use Rattle.std.proofs.lemmas.Result.{err_from_is_err_and}
+pub use Rattle.std.proofs.lemmas.Slice.Eq.{slice_eq-Decides}
 pub use Rattle.std.specs.Option.{IfSome}
 pub use lib.IntN.{*ℤ-zero, +ℤ_idl}

@@ -1,8 +1,8 @@
 -- Laws of broadcasting: an array stretched to its own shape is unchanged.
-use Rattle.std.specs.Prelude.{◌≡◌, ℕ, ◌-◌, ◌<◌, ◌==◌, ◌&&◌, ◌||◌, true, if◌then◌else◌, List, ◌∷◌, ◌++◌, length, take, drop, replicate}
-use Rattle.std.proofs.Common.{Result, Ok, Err, zero, suc, false, [], refl, sym, ap, ◌∙◌, arith, get_or}
-use Rattle.broadcasting.specs.Words.{list_all, is_ok, false≢true, eqb-true, and_parts, nat_tests, Refusal, ShapesDoNotBroadcast, ◌>>=◌, same_answer, check_passed, IsIndex, rank, length-index, same_on_indexes, Layout, natural, address, offsets, get_or-offsets, View, view_through}
-use Rattle.broadcasting.specs.Broadcasts.{stretches, all_stretch, can_stretch, within_axes, broadcast_index, stretched, axes_beyond, stretched_into}
+use Rattle.std.specs.Prelude.{◌≡◌, ℕ, ◌-◌, ◌<◌, ◌==◌, ◌&&◌, ◌||◌, true, if◌then◌else◌, List, ◌∷◌, ◌++◌, length, drop, replicate}
+use Rattle.std.proofs.Common.{Ok, zero, suc, false, [], refl, ap, ◌∙◌, arith, get_or}
+use Rattle.broadcasting.specs.Words.{false≢true, eqb-true, and_parts, nat_tests, IsIndex, rank, length-index, same_on_indexes, Layout, natural, address, offsets, get_or-offsets, view_through}
+use Rattle.broadcasting.specs.Broadcasts.{stretches, all_stretch, can_stretch, within_axes, broadcast_index, stretched}
 
 -- ---- a shape stretched to itself
 

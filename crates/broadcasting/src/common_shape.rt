@@ -28,6 +28,10 @@ pub fn common_of_two(
 ) -> Result<SmallVec<usize, 4>, Refusal>
     ensures { Gives (λ v. v.items) result (common_of_two left.now right.now) }
 {
+    // Most often the shapes are equal, or one has no axes.
+    if left.is_empty() || left == right {
+        return Ok(SmallVec::from_slice(alloc, right)?);
+    }
     let rank = left.len().max(right.len());
     let mut lengths = SmallVec::new(alloc);
     for axis in 0..rank {
