@@ -75,6 +75,10 @@ module _ (run : Run) (lies : LieWithin (run.count ∷ []) (run.step ∷ []) run.
   pub lies-there : (offset : ℕ) → pos offset ≡ pos run.offset +ℤ run.step *ℤ pos k → offset ≡ get_or (run_offsets run) k 0
   lies-there offset there = ap natural there ∙ sym (nth-offset run k low)
 
+  -- with a step of 0, all items are at one place
+  pub at-one-place : run.step ≡ pos 0 → run.offset ≡ get_or (run_offsets run) k 0
+  at-one-place still = lies-there run.offset (sym (ap (λ z. pos run.offset +ℤ z *ℤ pos k) still ∙ ap (λ z. pos run.offset +ℤ z) (zero-*ℤ (pos k)) ∙ +ℤ_idr (pos run.offset)))
+
 -- ---- adjacent items
 
 pub packed-entry : (at width n k : ℕ) → k < n → get_or (packed at width n) k 0 ≡ at + width * k

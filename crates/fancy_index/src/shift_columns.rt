@@ -117,14 +117,29 @@ fn grow_each(shifts: &mut [u32], at: usize, start: u32, offsets: &[u32], places:
     }
 }
 
-/// The same, with separate loops for a single place and for adjacent ones.
+/// Adds the distance of one offset from the start to `count` shifts, starting with one of them.
+fn grow_equally(shifts: &mut [u32], at: usize, start: u32, offset: u32, count: usize)
+    requires start { start ≤ max_bytes }
+    requires many { at + count ≤ length shifts.old }
+    requires can { (k : ℕ) → at ≤ k → k < at + count
+        → IsMoved start (get_or shifts.old k 0) offset }
+    ensures { HaveGrownFrom at start (λ _. offset) shifts.old shifts.new (at + count) }
+{
+    for k in 0..count {
+        shifts[at + k] = shifts[at + k] + offset - start;
+    }
+}
+
+/// The same, with separate loops for adjacent places and for a single place.
 fn grow_run(shifts: &mut [u32], at: usize, start: u32, offsets: &[u32], places: Run)
     requires { CanGrowAlong at start offsets.now places shifts.old }
     ensures { let to = at + places.count in
         HaveGrownFrom at start (number_along offsets.now places at) shifts.old shifts.new to }
 {
     match places.step {
-        0 => grow_each(shifts, at, start, offsets, Run { step: 0, ..places }),
+        0 if places.count > 0 => {
+            grow_equally(shifts, at, start, offsets[places.offset], places.count);
+        }
         1 => grow_each(shifts, at, start, offsets, Run { step: 1, ..places }),
         _ => grow_each(shifts, at, start, offsets, places),
     }

@@ -102,7 +102,6 @@ impl<'a> ShortRows<'a> {
         items
     }
 
-    /// The same, with a loop of its own for each common width.
     #[inline(always)]
     fn push_on_width(self, items: BlockBuilder, source: Source<'_>) -> BlockBuilder
         requires { CanPush (short_offsets self) source items }
@@ -139,7 +138,6 @@ impl<'a> ShortRows<'a> {
         at
     }
 
-    /// The same, with a loop of its own for each common width.
     #[inline(always)]
     fn scatter_on_width(self, block: &mut RawBlock, source: PackedItems<'_>) -> usize
         requires { CanPut (short_offsets self) source block.old }
@@ -173,7 +171,6 @@ impl<'a> ShortRows<'a> {
         }
     }
 
-    /// The same, with a loop of its own for each common width.
     #[inline(always)]
     fn fill_on_width(self, block: &mut RawBlock, item: &[u8])
         requires { FitAt (short_offsets self) (length item.now) block.old }
