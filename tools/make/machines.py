@@ -26,8 +26,8 @@ MADE = {
 FILES = {name: machine for files in MADE.values() for name, machine in files.items()}
 # What rattle calls a machine.
 WORDS = {"x86-64-v3": ("--cpu", "x86-64-v3"), "aarch64": ("--target", "aarch64-unknown-linux-gnu")}
-# More options of clang. Functions become parts of their callers up to twice the usual size, so fewer large values are returned: the
-# program is a fourth larger, and a line takes 5 to 11 % fewer instructions.
+# More options of clang. Larger functions than usual become parts of their callers, so fewer large values are returned: the program is a fourth
+# larger, and a line takes 5 to 11 % fewer instructions.
 MORE = {"x86-64-v3": ("-mllvm", "-inline-threshold=600"), "aarch64": ()}
 PARTS = (sources.TOP / "tools/make/system.c", sources.TOP / "page/wide.c")
 # The calls of glibc on aarch64 that the program may make, by the version that first had them there.
