@@ -169,6 +169,8 @@ def inside() -> Iterator[str]:
 
 BINDER = re.compile(r"[({]([^(){}:]+?) : ")
 VALUE = re.compile(r"\s*\(?(ℕ|ℤ|Bool|Type|List|Option|Result|Maybe|IndexItem|Values)\b")
+# Laws of equal shapes, which broadcasting and bench_engine prove each for itself: those in proofs/ are no other crate's to cite.
+IN_TWO_CRATES = {"aligned-own", "common-of-none", "lengths-ones", "together-ones"}
 # Two limits that are equal today are two; and do-notation asks for the name of a bind.
 LIMIT = re.compile(r"it : ℕ it = \d+")
 BIND = "◌>>=◌"
@@ -232,7 +234,7 @@ def twice() -> Iterator[str]:
                 public[name].add((crate, meaning))
     for what, found in (("stated", proved), ("defined", defined)):
         for meaning, places in sorted(found.items(), key=lambda it: sorted(it[1])):
-            if len(places) > 1 and len(meaning) > 12:
+            if len(places) > 1 and len(meaning) > 12 and not IN_TWO_CRATES & {name for _, name in places}:
                 yield f"{what} {len(places)} times: " + ", ".join(f"{file}: {name}" for file, name in sorted(places))
     for name, pairs in sorted(public.items()):
         crates, meanings = {crate for crate, _ in pairs}, {meaning for _, meaning in pairs}
