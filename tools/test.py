@@ -50,9 +50,9 @@ def batches(tests):
 
 
 # The tests that take longest begin first, so that none of them is left alone at the end.
-LONG = ("InFirefox", "InChromium", "test_types", "InJupyter", "Installed.test_wheel", "test_the_example", "test_torch", "test_what_the_cases_say", "test_judge.Planted",
-        "test_machines", "test_faults", "test_random_scripts", "test_draw", "test_memory", "test_judge", "test_library", "test_trials", "test_page", "test_scripts",
-        "test_translations", "test_saves", "test_c.", "test_run", "test_wheel", "test_launcher")
+LONG = ("InFirefox", "InChromium", "test_types", "InJupyter", "Installed.test_wheel", "test_the_example", "test_torch", "test_what_the_cases_say", "test_death_and_hang",
+        "test_judge.Planted", "test_machines", "test_faults", "test_random_scripts", "test_draw", "test_memory", "test_judge", "test_library", "test_trials", "test_page", "test_scripts",
+        "test_translations", "test_shell", "test_dist", "test_saves", "test_c.", "test_run", "test_wheel", "test_launcher")
 
 
 def by_length(names):
@@ -67,9 +67,10 @@ def show(text):
 
 
 def results(found):
-    """What `run_batch` returns of each test of some batches, on all cores, as they end."""
+    """What `run_batch` returns of each test of some batches, as they end. Tests often wait, for a browser or a limit of time, so twice as many run at
+    once as there are cores."""
     done, count = 0, sum(map(len, found))
-    with concurrent.futures.ProcessPoolExecutor() as pool:
+    with concurrent.futures.ProcessPoolExecutor(2 * (os.cpu_count() or 1)) as pool:
         for each in concurrent.futures.as_completed([pool.submit(run_batch, names) for names in sorted(found, key=by_length)]):
             for result in each.result():
                 done += 1
