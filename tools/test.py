@@ -1,7 +1,7 @@
 #!/usr/bin/env python3
 """Runs the tests of everything but the proofs: tools/test.py [WORD ..] runs those whose names have one of the words, or all.
 
-It takes two minutes, and needs no toolchain. On a terminal a line says how far it is. The tests run with the first `python3` of PATH
+It takes about two minutes, and needs no toolchain. On a terminal a line says how far it is. The tests run with the first `python3` of PATH
 that has NumPy, if one has it; the output says which. Skipped tests are listed with the reason. The last line is `N passed, M failed,
 K skipped`. With --gate, `rt ci` runs first and proves everything from scratch, then dist/ is compared with the
 program that it built, and no test may be skipped because there is no program."""
